@@ -9,7 +9,7 @@ use Rattle.page_table.specs.State.{MemoryState, part}
 abbrev pub one_unless : Bool → ℕ
 one_unless b = if b then 0 else 1
 
--- no more than there are places
+-- no more than there are indices
 unpinned_few : (pins : List Bool) (i n : ℕ) → unpinned_from pins i n ≤ length pins - i
 unfolding unpinned_from
 unpinned_few pins i zero = omega arith
@@ -32,7 +32,7 @@ few_pins : (memory : MemoryState) (t : ℕ) → length (part memory t).pins ≤ 
 unfolding part part_of
 few_pins memory t = let h = length-take 2048 (drop (t * 2048) memory.sharing.pins) in omega (arith, h)
 
--- of a tenant's map no more than the tenant has places
+-- of a tenant's map no more than the tenant has indices
 pub unpinned_small : (memory : MemoryState) (t i n : ℕ) → unpinned_from (part memory t).pins i n ≤ 2048
 unpinned_small memory t i n =
     let few = unpinned_few (part memory t).pins i n in
@@ -58,6 +58,6 @@ pub unpinned_next : (writes : ℕ → Bool) (pages : ℕ → ℕ) (pins : List B
 unfolding unpinned_in
 unpinned_next writes pages pins m sum here before is =
     let next : m + 1 ≡ suc m = omega arith in
-    let place : m * 256 ≡ 0 + m * 256 = omega arith in
-    let there = is ∙ ap (λ (k : ℕ). if writes m then unpinned_from pins k (pages m) else 0) place in
+    let page_index : m * 256 ≡ 0 + m * 256 = omega arith in
+    let there = is ∙ ap (λ (k : ℕ). if writes m then unpinned_from pins k (pages m) else 0) page_index in
     rw next (omega (arith, before, there))

@@ -4,7 +4,7 @@ use Rattle.std.proofs.lemmas.List.{get_or-take, get_or-drop}
 use Rattle.host_types.specs.Bytes.{part_of}
 use Rattle.host_types.specs.Memory.{FlatMap, map_at}
 use Rattle.host_types.specs.Sharing.{Sharing, cost_from}
-use Rattle.host_types.specs.Pins.{is_pinned, broken_by_from, PinsOwn, unpinned_from, unpinned_in, capped}
+use Rattle.host_types.specs.Pins.{is_pinned, broken_for_run_from, PinsOwn, unpinned_from, unpinned_in, capped}
 use Rattle.host_types.specs.Tenant.{TenantPart, IsFlatMap, AreFlatMaps}
 use Rattle.host_types.proofs.Pins.{reserve-pays, reserve-falls}
 use Rattle.page_table.specs.Changes.{pages_of_map}
@@ -18,42 +18,42 @@ use Rattle.verifier.proofs.Written.{writes_fall}
 use Rattle.admission.specs.Reserve.{needed_by, needed_from}
 use Rattle.admission.proofs.Counting.{one_unless}
 
--- ---- the pins of a part are those of all places
+-- ---- the pins of a part are those of all indices
 
-pin_of_part : (pins : List Bool) (place i : ℕ) → i < 2048 → is_pinned (part_of pins place 2048) i ≡ is_pinned pins (place + i)
+pin_of_part : (pins : List Bool) (page_index i : ℕ) → i < 2048 → is_pinned (part_of pins page_index 2048) i ≡ is_pinned pins (page_index + i)
 unfolding part_of
-pin_of_part pins place i few = get_or-take 2048 (drop place pins) i true few ∙ get_or-drop place pins i true
+pin_of_part pins page_index i few = get_or-take 2048 (drop page_index pins) i true few ∙ get_or-drop page_index pins i true
 
-unpinned_of_part : (pins : List Bool) (place i n : ℕ) → i + n ≤ 2048 → unpinned_from (part_of pins place 2048) i n ≡ unpinned_from pins (place + i) n
+unpinned_of_part : (pins : List Bool) (page_index i n : ℕ) → i + n ≤ 2048 → unpinned_from (part_of pins page_index 2048) i n ≡ unpinned_from pins (page_index + i) n
 unfolding unpinned_from
-unpinned_of_part pins place i zero few = refl
-unpinned_of_part pins place i (suc n) few =
-    let next : place + (i + 1) ≡ place + i + 1 = omega arith in
-    let here = ap one_unless (pin_of_part pins place i (omega (arith, few))) in
-    let rest = unpinned_of_part pins place (i + 1) n (omega (arith, few)) ∙ ap (λ (k : ℕ). unpinned_from pins k n) next in
+unpinned_of_part pins page_index i zero few = refl
+unpinned_of_part pins page_index i (suc n) few =
+    let next : page_index + (i + 1) ≡ page_index + i + 1 = omega arith in
+    let here = ap one_unless (pin_of_part pins page_index i (omega (arith, few))) in
+    let rest = unpinned_of_part pins page_index (i + 1) n (omega (arith, few)) ∙ ap (λ (k : ℕ). unpinned_from pins k n) next in
     omega (arith, here, rest)
 
--- so are the numbers of pages of a tenant's maps, of which each has 256 places
-pub unpinned_of_tenant : (writes : ℕ → Bool) (pages : ℕ → ℕ) (pins : List Bool) (place n : ℕ) → n ≤ 8 → ((m : ℕ) → pages m ≤ 256)
-    → unpinned_in writes pages (part_of pins place 2048) 0 n ≡ unpinned_in writes pages pins place n
+-- so are the numbers of pages of a tenant's maps, of which each has 256 indices
+pub unpinned_of_tenant : (writes : ℕ → Bool) (pages : ℕ → ℕ) (pins : List Bool) (page_index n : ℕ) → n ≤ 8 → ((m : ℕ) → pages m ≤ 256)
+    → unpinned_in writes pages (part_of pins page_index 2048) 0 n ≡ unpinned_in writes pages pins page_index n
 unfolding unpinned_in
-unpinned_of_tenant writes pages pins place zero few small = refl
-unpinned_of_tenant writes pages pins place (suc m) few small =
-    let rest = unpinned_of_tenant writes pages pins place m (omega (arith, few)) small in
+unpinned_of_tenant writes pages pins page_index zero few small = refl
+unpinned_of_tenant writes pages pins page_index (suc m) few small =
+    let rest = unpinned_of_tenant writes pages pins page_index m (omega (arith, few)) small in
     let most = small m in
-    let same = unpinned_of_part pins place (0 + m * 256) (pages m) (omega (arith, few, most)) in
-    let there : place + (0 + m * 256) ≡ place + m * 256 = omega arith in
+    let same = unpinned_of_part pins page_index (0 + m * 256) (pages m) (omega (arith, few, most)) in
+    let there : page_index + (0 + m * 256) ≡ page_index + m * 256 = omega arith in
     let here = ap (λ (k : ℕ). if writes m then k else 0) (same ∙ ap (λ (k : ℕ). unpinned_from pins k (pages m)) there) in
     omega (arith, rest, here)
 
--- ---- what is told by the pages of each map
+-- ---- what is reported by the pages of each map
 
-pub same_pages : (writes : ℕ → Bool) (pages others : ℕ → ℕ) (pins : List Bool) (place n : ℕ) → ((m : ℕ) → pages m ≡ others m) → unpinned_in writes pages pins place n ≡ unpinned_in writes others pins place n
+pub same_pages : (writes : ℕ → Bool) (pages others : ℕ → ℕ) (pins : List Bool) (page_index n : ℕ) → ((m : ℕ) → pages m ≡ others m) → unpinned_in writes pages pins page_index n ≡ unpinned_in writes others pins page_index n
 unfolding unpinned_in
-same_pages writes pages others pins place zero same = refl
-same_pages writes pages others pins place (suc m) same =
-    let rest = same_pages writes pages others pins place m same in
-    let here = ap (λ (k : ℕ). if writes m then unpinned_from pins (place + m * 256) k else 0) (same m) in
+same_pages writes pages others pins page_index zero same = refl
+same_pages writes pages others pins page_index (suc m) same =
+    let rest = same_pages writes pages others pins page_index m same in
+    let here = ap (λ (k : ℕ). if writes m then unpinned_from pins (page_index + m * 256) k else 0) (same m) in
     omega (arith, rest, here)
 
 -- a map has at most 256 pages
@@ -80,21 +80,21 @@ pub needed_later : (v : Accepted) (owned : TenantPart) (slot later : ℕ) → sl
 needed_later v owned slot later ahead =
     needed_falls (reserve_from v slot) (reserve_from v later) (writes_from v slot) (writes_from v later) owned (reserve_below v slot later ahead) (λ m. writes_fall v slot later m ahead)
 
--- A store of a tenant's open run to pages of one of its maps: what it takes, and what is needed behind it, was needed before. So many frames
+-- A store of a tenant's open run to pages of one of its maps: what it takes, and what is needed after it, was needed before. So many frames
 -- are charged for it as pages are written, and what is charged falls off the total.
 pub needed_pays : (s : Sharing) (t i k charge total less m0 : ℕ) (writes fewer : ℕ → Bool) (owned after : TenantPart) → PinsOwn s
-    → owned.pins ≡ part_of s.pins (t * 2048) 2048 → after.pins ≡ part_of (broken_by_from true s i k).pins (t * 2048) 2048
+    → owned.pins ≡ part_of s.pins (t * 2048) 2048 → after.pins ≡ part_of (broken_for_run_from true s i k).pins (t * 2048) 2048
     → ((m : ℕ) → pages_of_map after m ≡ pages_of_map owned m) → ((m : ℕ) → pages_of_map owned m ≤ 256)
     → ((m : ℕ) → fewer m ≡ true → writes m ≡ true) → m0 < 8 → writes m0 ≡ true
     → t * 2048 + m0 * 256 ≤ i → i + k ≤ t * 2048 + m0 * 256 + pages_of_map owned m0 → k ≤ charge → charge + less ≤ total
     → cost_from s i k + needed_by less fewer after ≤ needed_by total writes owned
 needed_pays s t i k charge total less m0 writes fewer owned after own pins pins_after same small among below marked above within charged falls =
-    let place = t * 2048 in
+    let page_index = t * 2048 in
     let pages = pages_of_map owned in
-    let before : needed_by total writes owned ≡ capped total (unpinned_in writes pages s.pins place 8) =
-    ap (capped total) (ap (λ (p : List Bool). unpinned_in writes pages p 0 8) pins ∙ unpinned_of_tenant writes pages s.pins place 8 (omega arith) small) in
-    let later : needed_by less fewer after ≡ capped less (unpinned_in fewer pages (broken_by_from true s i k).pins place 8) =
+    let before : needed_by total writes owned ≡ capped total (unpinned_in writes pages s.pins page_index 8) =
+    ap (capped total) (ap (λ (p : List Bool). unpinned_in writes pages p 0 8) pins ∙ unpinned_of_tenant writes pages s.pins page_index 8 (omega arith) small) in
+    let later : needed_by less fewer after ≡ capped less (unpinned_in fewer pages (broken_for_run_from true s i k).pins page_index 8) =
     ap (capped less) (same_pages fewer (pages_of_map after) pages after.pins 0 8 same ∙ ap (λ (p : List Bool). unpinned_in fewer pages p 0 8) pins_after
-    ∙ unpinned_of_tenant fewer pages (broken_by_from true s i k).pins place 8 (omega arith) small) in
-    let pays = reserve-pays s i k charge total less place m0 writes fewer pages own among below marked above within charged falls in
+    ∙ unpinned_of_tenant fewer pages (broken_for_run_from true s i k).pins page_index 8 (omega arith) small) in
+    let pays = reserve-pays s i k charge total less page_index m0 writes fewer pages own among below marked above within charged falls in
     omega (arith, before, later, pays)

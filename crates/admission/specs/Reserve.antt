@@ -25,5 +25,5 @@ abbrev pub needed_from : Accepted → TenantPart → ℕ → ℕ
 needed_from v owned slot = needed_by (reserve_from v slot) (writes_from v slot) owned
 
 -- what a run of a program may need where no page is pinned, by the shapes that the program has for its maps
-abbrev pub unpinned_need : Accepted → ℕ
-unpinned_need v = capped (reserve_from v 0) (unpinned_in (writes_from v 0) (pages_asked v.subject) (replicate 2048 false) 0 8)
+abbrev pub whole_need : Accepted → ℕ
+whole_need v = capped (reserve_from v 0) (unpinned_in (writes_from v 0) (pages_asked v.subject) (replicate 2048 false) 0 8)

@@ -3,7 +3,7 @@ ghost use Rattle.host_types.specs.Pins.{unpinned_from, unpinned_in};
 ghost use Rattle.page_table.specs.State.{part};
 ghost use Rattle.page_table.specs.Changes.{pages_of_map};
 ghost use Rattle.verifier.specs.Writes.{writes_from};
-ghost use Rattle.admission.specs.Reserve.{needed_from, pages_asked, unpinned_need};
+ghost use Rattle.admission.specs.Reserve.{needed_from, pages_asked, whole_need};
 
 use host_types::MapNo;
 use host_types::limits::{MAX_MAPS, PAGE_SIZE};
@@ -55,8 +55,8 @@ fn may_take_out(program: &Verified, memory: &Memory, tenant: u32, slot: u32, map
 
 /// How many frames a run of a program may need where no page is pinned, by the shapes that the program has for its
 /// maps.
-pub fn unpinned(program: &Verified) -> u32
-    ensures { result ≡ unpinned_need program.now }
+pub fn whole_need(program: &Verified) -> u32
+    ensures { result ≡ whole_need program.now }
 {
     let mut pages = 0;
     for map in 0..MAX_MAPS as MapNo {

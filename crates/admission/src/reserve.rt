@@ -1,6 +1,6 @@
 ghost use Rattle.std.specs.Prelude.{◌≡◌, ◌+◌, ◌≤◌, false, length, OnOk, IfErr, OnErr};
 ghost use Rattle.page_table.specs.State.{part, have_of};
-ghost use Rattle.page_table.specs.Changes.{IsKeptBut, with_reserve, with_run, without_run, with_record, opened, ended};
+ghost use Rattle.page_table.specs.Changes.{OtherTenantsUnchanged, with_reserve, with_run, without_run, with_record, opened, ended};
 ghost use Rattle.verifier.specs.Reserve.{reserve_from};
 ghost use Rattle.admission.specs.Refusals.{RefusesFrames};
 
@@ -9,7 +9,7 @@ use page_table::Memory;
 use verifier::Verified;
 
 /// How many frames the rest of a run may take from a slot on, whichever pages share frames and however
-/// often it writes to one. It is told in constant time.
+/// often it writes to one. It is reported in constant time.
 #[inline]
 pub fn breaks(program: &Verified, slot: u32) -> u32
     ensures { result ≡ reserve_from program.now slot }
@@ -19,7 +19,7 @@ pub fn breaks(program: &Verified, slot: u32) -> u32
 
 /// Opens a run of a tenant that has none, and reserves frames for it.
 ///
-/// 31 just where the need is above `have()`; it tells both numbers, and changes nothing.
+/// 31 just where the need is above `have()`; it names both numbers, and changes nothing.
 pub fn admit(memory: &mut Memory, tenant: u32, need: u32) -> Result<(), Fault>
     requires there { length (part memory.old tenant).maps ≡ 8 }
     requires none { (part memory.old tenant).running ≡ false }
@@ -28,7 +28,7 @@ pub fn admit(memory: &mut Memory, tenant: u32, need: u32) -> Result<(), Fault>
     ensures recorded { OnOk result (part memory.new tenant ≡ with_run need (part memory.old tenant)) }
     ensures have { OnOk result (have_of memory.new + need ≡ have_of memory.old) }
     ensures all { OnOk result (memory.new ≡ opened memory.old tenant need) }
-    ensures others { IsKeptBut tenant memory.old memory.new }
+    ensures others { OtherTenantsUnchanged tenant memory.old memory.new }
     ensures err { IfErr result (RefusesFrames memory.old need) }
     ensures unchanged { OnErr result (memory.new ≡ memory.old) }
 {
@@ -48,7 +48,7 @@ pub fn lower(memory: &mut Memory, tenant: u32, left: u32)
     ensures recorded { part memory.new tenant ≡ with_reserve left (part memory.old tenant) }
     ensures have { have_of memory.new + left ≡ have_of memory.old + (part memory.old tenant).reserve }
     ensures all { memory.new ≡ with_record memory.old tenant left }
-    ensures others { IsKeptBut tenant memory.old memory.new }
+    ensures others { OtherTenantsUnchanged tenant memory.old memory.new }
 {
     memory.record(tenant, left);
 }
@@ -59,7 +59,7 @@ pub fn release(memory: &mut Memory, tenant: u32)
     ensures recorded { part memory.new tenant ≡ without_run (part memory.old tenant) }
     ensures have { have_of memory.new ≡ have_of memory.old + (part memory.old tenant).reserve }
     ensures all { memory.new ≡ ended memory.old tenant }
-    ensures others { IsKeptBut tenant memory.old memory.new }
+    ensures others { OtherTenantsUnchanged tenant memory.old memory.new }
 {
     memory.end_run(tenant);
 }

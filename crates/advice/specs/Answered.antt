@@ -7,8 +7,8 @@ abbrev pub is_of_text : ℕ → Bool
 is_of_text n = n == bad_length || (n == unknown_opcode || (n == bad_field || (n == bad_register || n == cut_wide)))
 
 -- where an instruction may lead
-abbrev pub is_of_way : ℕ → Bool
-is_of_way n = n == back_jump || (n == jump_out || n == falls_off)
+abbrev pub is_of_jump : ℕ → Bool
+is_of_jump n = n == back_jump || (n == jump_out || n == falls_off)
 
 -- which registers and kinds of values an instruction may take
 abbrev pub is_of_value : ℕ → Bool
@@ -38,5 +38,5 @@ is_of_tenants n =
 -- a refusal by this number can be answered
 abbrev pub is_answered : ℕ → Bool
 is_answered n =
-    is_of_text n || (is_of_way n || (is_of_value n || (is_of_access n
+    is_of_text n || (is_of_jump n || (is_of_value n || (is_of_access n
     || (is_of_call n || (is_of_limits n || (is_of_frames n || is_of_tenants n))))))

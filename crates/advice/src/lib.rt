@@ -1,5 +1,5 @@
 //! What each refusal says to the author of a program or of a host file. It is the one table of these
-//! words: the program `bpf_host` says them, and the program `rows_refusals` prints them for the documents.
+//! words: the program `bpf_host` says them, and the program `golden_refusals` prints them for the documents.
 #![tactic(auto)]
 
 mod event;
@@ -34,7 +34,7 @@ pub fn advice_on(number: u32) -> Option<Advice>
     ensures { IsSome result ↔ IsTrue (is_answered number) }
 {
     program::on_text(number)
-        .or(program::on_way(number))
+        .or(program::on_successor(number))
         .or(program::on_value(number))
         .or(program::on_access(number))
         .or(program::on_call(number))

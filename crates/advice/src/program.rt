@@ -1,7 +1,7 @@
 //! The refusals of a program. Each function has the rules of one kind, and answers `None` for others.
 
 ghost use Rattle.std.specs.Prelude.{◌↔◌, IsSome, IsTrue};
-ghost use Rattle.advice.specs.Answered.{is_of_text, is_of_way, is_of_value, is_of_access, is_of_call};
+ghost use Rattle.advice.specs.Answered.{is_of_text, is_of_jump, is_of_value, is_of_access, is_of_call};
 
 use crate::Advice;
 use host_types::rule::{
@@ -40,8 +40,8 @@ pub fn on_text(number: u32) -> Option<Advice>
 }
 
 /// Where an instruction may lead.
-pub fn on_way(number: u32) -> Option<Advice>
-    ensures { IsSome result ↔ IsTrue (is_of_way number) }
+pub fn on_successor(number: u32) -> Option<Advice>
+    ensures { IsSome result ↔ IsTrue (is_of_jump number) }
 {
     let (wrong, mend) = match number {
         BACK_JUMP => (

@@ -142,7 +142,7 @@ impl Work {
     }
 }
 
-/// Puts slots behind a text.
+/// Puts slots after a text.
 fn push_slots(text: &mut Vec<u8>, slots: &[u64]) -> Result<(), AllocError> {
     for slot in slots {
         text.extend_from_slice(&slot.to_be_bytes())?;
@@ -163,15 +163,15 @@ fn text_of(alloc: Global, work: Work) -> Result<Vec<u8>, AllocError> {
     Ok(text)
 }
 
-/// A program that is judged.
-fn judged(alloc: Global, text: &[u8]) -> Result<Verified, Refused> {
+/// A program that is verified.
+fn verdict(alloc: Global, text: &[u8]) -> Result<Verified, Refused> {
     verify(alloc, decode(alloc, text)?, &[Some(SHAPE)], 0)
 }
 
 /// The program of some work.
 pub(crate) fn program_of(alloc: Global, work: Work) -> Result<Verified, Refused> {
     match text_of(alloc, work) {
-        Ok(text) => judged(alloc, text.as_slice()),
+        Ok(text) => verdict(alloc, text.as_slice()),
         Err(AllocError) => Err(Refused::OUT_OF_MEMORY),
     }
 }

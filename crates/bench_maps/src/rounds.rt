@@ -34,7 +34,7 @@ fn make_maps(memory: &mut Memory) -> Result<(), Fault> {
 
 /// Puts the pages where they are to lie. It answers whether they do, by the frames that are free: of all
 /// but the zero frame two, one or none are theirs.
-fn place(memory: &mut Memory, pages: Pages) -> bool {
+fn page_index(memory: &mut Memory, pages: Pages) -> bool {
     let taken = match pages {
         Pages::Own => 2,
         Pages::Merged => 1,
@@ -65,12 +65,12 @@ fn round(
     program: &Verified,
     pages: Pages,
 ) -> Result<f64> {
-    let is_placed = place(memory, pages);
+    let is_positioned = page_index(memory, pages);
     let start = Instant::now(rt)?;
-    let told = ran(rt.alloc(), memory, program);
+    let answered = ran(rt.alloc(), memory, program);
     let spent = start.elapsed(rt)?.as_secs_f64();
-    match told {
-        Ok(reply) if is_placed => Ok(spent * 1e9 / f64::from(reply.steps)),
+    match answered {
+        Ok(reply) if is_positioned => Ok(spent * 1e9 / f64::from(reply.steps)),
         Ok(_) => Err(anyhow!("a page lies on another frame")),
         Err(fault) => Err(anyhow!("{fault}")),
     }

@@ -3,11 +3,11 @@ use Rattle.std.proofs.Common.{◌≡◌, ◌∙◌, ◌&&◌, ℕ, Bool, true, f
 use Rattle.std.proofs.lemmas.List.{get_or-set_same}
 use Rattle.host_types.specs.declared.status.Status.{Status}
 use Rattle.host_types.specs.declared.status.Status.TheVariants.{New, Volatile, Waiting, Grouped, Zero}
-use Rattle.host_types.specs.Pins.{pinned, broken_by}
+use Rattle.host_types.specs.Pins.{pinned, broken_for_run}
 use Rattle.host_types.specs.Sharing.{Sharing, PageState, state_at, is_shared, is_shared_page, is_in_company, left_by, broken, broken_page, break_cost, cost_of}
 use Rattle.host_types.proofs.Unmerging.{state_inside}
 
--- what the break of a page takes, told by its state
+-- what the break of a page takes, reported by its state
 abbrev cost_in : Bool → Option PageState → ℕ
 cost_in company x = unwrap_or (option_map (λ (state : PageState). cost_of company state.status) x) 0
 
@@ -43,8 +43,8 @@ unfolding break_cost
 broken-cost s i = own-cost (is_in_company (broken s i) i) (state_at (broken s i) i) (own-broken s i)
 
 -- whether or not it is pinned
-pub cost-again : (running : Bool) (s : Sharing) (i : ℕ) → break_cost (broken_by running s i) i ≡ 0
-unfolding broken_by break_cost
+pub cost-again : (running : Bool) (s : Sharing) (i : ℕ) → break_cost (broken_for_run running s i) i ≡ 0
+unfolding broken_for_run break_cost
 cost-again running s i = by_pinned (running && is_shared_page (state_at s i))
   where
     by_pinned : (b : Bool) → break_cost (if b then pinned (broken s i) i else broken s i) i ≡ 0

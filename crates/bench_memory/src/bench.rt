@@ -95,8 +95,8 @@ impl Bench {
         let base = self.fills.wrapping_mul(8192);
         let third = self.pages.len().div_ceil(3);
         let mut all = true;
-        for (place, page) in self.pages.iter().enumerate() {
-            let number = base.wrapping_add(likeness.number(place, third));
+        for (page_index, page) in self.pages.iter().enumerate() {
+            let number = base.wrapping_add(likeness.number(page_index, third));
             all &= stored(&mut self.memory, *page, number);
         }
         all
@@ -119,16 +119,16 @@ impl Bench {
 
 impl Likeness {
     /// The number of a page's bytes.
-    fn number(self, place: usize, third: usize) -> u64 {
+    fn number(self, page_index: usize, third: usize) -> u64 {
         let alike = match self {
             Likeness::Thirds => true,
-            Likeness::Pairs => place / 2 < third,
+            Likeness::Pairs => page_index / 2 < third,
             Likeness::None => false,
         };
         let number = if alike && third > 0 {
-            place % third
+            page_index % third
         } else {
-            place
+            page_index
         };
         (number as u64).wrapping_add(1)
     }

@@ -27,23 +27,23 @@ const NUMBERS: u32 = 512;
 
 /// Numbers of the first tenant's map 0: of one page after another, and then of the first page again.
 #[derive(Drop)]
-struct Places {
+struct PageIndices {
     pages: u32,
     page: u32,
     ghost inside: { page < pages },
     ghost few: { pages * 4096 < 4294967296 },
 }
 
-impl Places {
+impl PageIndices {
     /// `None` where the map has no page.
-    fn of(memory: &Memory) -> Option<Places>
-        ensures { IfSome result (λ places. places.pages * 4096 ≤ length (map_bytes (part memory.now 0) 0)) }
+    fn of(memory: &Memory) -> Option<PageIndices>
+        ensures { IfSome result (λ page_indices. page_indices.pages * 4096 ≤ length (map_bytes (part memory.now 0) 0)) }
     {
         let pages = memory.byte_len(0, 0) / PAGE_SIZE;
         if pages == 0 {
             return None;
         }
-        Some(Places { pages, page: 0 })
+        Some(PageIndices { pages, page: 0 })
     }
 
     /// Where the number of a turn lies, on the next page.
@@ -53,32 +53,32 @@ impl Places {
         ensures aligned { result % 8 ≡ 0 }
     {
         let at = self.page * PAGE_SIZE + turn % NUMBERS * 8;
-        let behind = self.page + 1;
-        self.page = if behind < self.pages { behind } else { 0 };
+        let following = self.page + 1;
+        self.page = if following < self.pages { following } else { 0 };
         at
     }
 }
 
 /// Loads from one page after another, again and again; their sum.
 pub(crate) fn loads(memory: &Memory, count: u32) -> u64 {
-    let Some(mut places) = Places::of(memory) else {
+    let Some(mut page_indices) = PageIndices::of(memory) else {
         return 0;
     };
     let mut sum: u64 = 0;
     for turn in 0..count {
-        sum = sum.wrapping_add(load(memory, 0, 0, places.next(turn), 8));
+        sum = sum.wrapping_add(load(memory, 0, 0, page_indices.next(turn), 8));
     }
     sum
 }
 
 /// What stores to one page after another would take, again and again; their sum.
 pub(crate) fn costs(memory: &Memory, count: u32) -> u64 {
-    let Some(mut places) = Places::of(memory) else {
+    let Some(mut page_indices) = PageIndices::of(memory) else {
         return 0;
     };
     let mut sum: u64 = 0;
     for turn in 0..count {
-        sum = sum.wrapping_add(u64::from(needs(memory, 0, 0, places.next(turn), 8)));
+        sum = sum.wrapping_add(u64::from(needs(memory, 0, 0, page_indices.next(turn), 8)));
     }
     sum
 }

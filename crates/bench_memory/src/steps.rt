@@ -1,4 +1,4 @@
-//! What is done in a round. A line says a step of it, in words between spaces, and behind `: ` its row in the table, if
+//! What is done in a round. A line says a step of it, in words between spaces, and after `: ` its row in the table, if
 //! it has one:
 //!
 //!     PART load, PART ask, PART store-own, PART lookup      ten thousand accesses

@@ -78,13 +78,13 @@ impl Mix {
         }
     }
 
-    /// The instruction at a place, by a number that is drawn for it.
-    fn insn(self, place: usize, drawn: u32) -> [u8; 8] {
+    /// The instruction at a pc, by a number that is drawn for it.
+    fn insn(self, pc: usize, drawn: u32) -> [u8; 8] {
         match self {
             Mix::RandomArithmetic => ARITHMETIC[(drawn / 65536) as usize % 16],
             Mix::Products => PRODUCT,
-            Mix::Stack => STACK[place % 8],
-            Mix::Jumps => JUMPS[place % 2],
+            Mix::Stack => STACK[pc % 8],
+            Mix::Jumps => JUMPS[pc % 2],
         }
     }
 }
@@ -96,9 +96,9 @@ pub(crate) fn text(alloc: Global, mix: Mix) -> Result<Vec<u8>> {
         text.extend_from_slice(&insn)?;
     }
     let mut drawn: u32 = 1;
-    for place in 0..SLOTS - 10 {
+    for pc in 0..SLOTS - 10 {
         drawn = drawn.wrapping_mul(1103515245).wrapping_add(12345);
-        text.extend_from_slice(&mix.insn(place, drawn))?;
+        text.extend_from_slice(&mix.insn(pc, drawn))?;
     }
     text.extend_from_slice(&[0xbf, 0x60, 0, 0, 0, 0, 0, 0])?;
     text.extend_from_slice(&[0x95, 0, 0, 0, 0, 0, 0, 0])?;

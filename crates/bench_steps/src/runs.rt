@@ -24,7 +24,7 @@ pub(crate) enum Calls {
 
 /// What can run the program that is measured.
 pub(crate) trait Runner {
-    /// Runs the program, and tells how many steps that took: none where it didn't end.
+    /// Runs the program, and says how many steps that took: none where it didn't end.
     fn run(&mut self, alloc: Global, calls: Calls) -> u32;
 }
 
@@ -78,7 +78,7 @@ impl Runner for Host {
             context: Bytes::from(Vec::new(alloc)),
         });
         match calls {
-            Calls::One => steps_told(self.make_steps(0, u64::MAX)),
+            Calls::One => steps_answered(self.make_steps(0, u64::MAX)),
             Calls::Each => applied(self),
         }
     }
@@ -96,7 +96,7 @@ fn applied(host: &mut Host) -> u32 {
 }
 
 /// How many steps a run made, by the reply to its last one.
-fn steps_told(last: Option<Reply>) -> u32 {
+fn steps_answered(last: Option<Reply>) -> u32 {
     match last {
         Some(Reply::Ended { steps, .. }) => steps,
         _ => 0,

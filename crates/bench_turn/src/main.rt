@@ -32,7 +32,7 @@ fn time<R: Clock + Threads + Wait + Sync, J: Job + Send>(
         rt,
         jobs,
         threads,
-        &|_place: usize, job: &mut J| job.work(rt, each),
+        &|_entry_index: usize, job: &mut J| job.work(rt, each),
     );
     start.elapsed(rt)
 }

@@ -2,5 +2,5 @@ pub mod Accepted
 pub mod Begins
 pub mod Naming
 pub mod Numbers
-pub mod Placing
+pub mod Numbering
 pub mod Walk

@@ -1,5 +1,5 @@
 //! The text of an eBPF program (RFC 9669, sections 3 to 5): its instructions and their fields, and
-//! which texts are well formed. `decode` judges a text by the table in docs/INSTRUCTIONS.md.
+//! which texts are well formed. `decode` verifies a text by the table in docs/INSTRUCTIONS.md.
 #![tactic(auto)]
 
 mod code;

@@ -32,7 +32,7 @@ pub enum Extension {
 }
 
 /// What an arithmetic instruction computes (RFC 9669, sections 4.1 and 4.2). The field `offset`
-/// tells `Div` and `Mod` of their signed forms, and `Mov` of the move with sign extension. The
+/// gives `Div` and `Mod` of their signed forms, and `Mov` of the move with sign extension. The
 /// byte swaps have their width in `imm`, which is their second operand.
 #[derive(Clone, Copy, Debug, PartialEq, Eq)]
 pub enum AluCode {

@@ -44,7 +44,7 @@ pub(crate) fn second_slot_fault(text: &[u8], slot: usize) -> Option<u32>
     None
 }
 
-/// The little-endian number of the four bytes at a place.
+/// The little-endian number of the four bytes at an offset.
 fn u32_at(text: &[u8], at: usize) -> u32
     requires { at + 4 ≤ length text.now }
     ensures { result ≡ number_of (part_of text.now at 4) }
@@ -52,7 +52,7 @@ fn u32_at(text: &[u8], at: usize) -> u32
     LittleEndian::read_u32(&text[at..at + 4])
 }
 
-/// The signed little-endian number of the two bytes at a place.
+/// The signed little-endian number of the two bytes at an offset.
 pub(crate) fn i16_at(text: &[u8], at: usize) -> i16
     requires { at + 2 ≤ length text.now }
     ensures { result ≡ cast_signed w16 (number_of (part_of text.now at 2)) }
@@ -60,7 +60,7 @@ pub(crate) fn i16_at(text: &[u8], at: usize) -> i16
     LittleEndian::read_i16(&text[at..at + 2])
 }
 
-/// The signed little-endian number of the four bytes at a place.
+/// The signed little-endian number of the four bytes at an offset.
 pub(crate) fn i32_at(text: &[u8], at: usize) -> i32
     requires { at + 4 ≤ length text.now }
     ensures { result ≡ cast_signed w32 (number_of (part_of text.now at 4)) }

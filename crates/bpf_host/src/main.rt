@@ -1,9 +1,9 @@
 //! The program `bpf_host` (docs/HOST.md).
 #![tactic(auto)]
 
+use cli::{Progress, answer_words};
 use engines::{status_of, words_from, write_fault};
 use host_file::FileFault;
-use requests::{Progress, answer_words};
 use std::alloc::AllocError;
 use std::io::{self, BufWriter, IsTerminal, LineWriter, Write};
 use std::process::ExitCode;
@@ -18,7 +18,7 @@ fn main(rt: HostRuntime) -> ExitCode {
     let progress = Progress::new(&rt, io::writer(&stderr), stderr.is_terminal());
     let outcome = run(&rt, rt.stdout().is_terminal(), &mut errors, progress);
     if let Err(fault) = &outcome {
-        // The status tells it too: the words may be lost.
+        // The status says it too: the words may be lost.
         let _ = write_fault(rt.alloc(), &mut errors, fault);
     }
     ExitCode::from(status_of(&outcome))

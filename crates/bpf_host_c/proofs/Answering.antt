@@ -1,9 +1,9 @@
--- Answers behind an open handle, and a whole run.
+-- Answers of an open handle, and a whole run.
 use Rattle.std.proofs.Common.{◌≡◌, ◌≢◌, ℕ, List, true, false, inl, inr, Option, Some, None, sym, ap, ◌∙◌, refl, subst}
 use lib.Dec.{T}
-use Rattle.host_core.specs.declared.event.Event.TheVariants.{Begin}
-use Rattle.host_core.specs.declared.event.Reply.{Reply}
-use Rattle.host_core.specs.declared.event.Reply.TheVariants.{Map, Program, Begun, Stepped, Ended, Visited, Done, Value, Counters, Refused}
+use Rattle.host_types.specs.declared.event.Event.TheVariants.{Begin}
+use Rattle.host_core.specs.declared.reply.Reply.{Reply}
+use Rattle.host_core.specs.declared.reply.Reply.TheVariants.{Map, Program, Begun, Stepped, Ended, Visited, Done, Value, Counters, Refused}
 use Rattle.host_core.specs.World.{System}
 use Rattle.host_core.specs.Happens.{StepsHappen}
 use Rattle.host_core.specs.HostView.{HostView}

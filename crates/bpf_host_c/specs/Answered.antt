@@ -1,6 +1,6 @@
--- What a call does to the host behind a handle.
+-- What a call does to the host of a handle.
 use Rattle.std.specs.Prelude.{◌≡◌, ℕ, Option, Some, None}
-use Rattle.host_core.specs.declared.event.Reply.{Reply}
+use Rattle.host_core.specs.declared.reply.Reply.{Reply}
 use Rattle.host_core.specs.World.{System}
 use Rattle.host_core.specs.HostView.{HostView, StandsForSystem}
 use Rattle.bpf_host_c.specs.declared.answer.Answer.{Answer}
@@ -12,13 +12,13 @@ abbrev pub Goes : (System → System → Type 0) → HostView → HostView → T
 Goes Happening old new =
     (x : System) → StandsForSystem old x → (x' : System) × StandsForSystem new x' × Happening x x'
 
--- What an answer says of the host behind a handle: a closed handle stays closed, and behind an open one happens what the reply answers.
+-- What an answer says of the host of a handle: a closed handle stays closed, and after an open one happens what the reply answers.
 abbrev pub HasAnswer : (Reply → System → System → Type 0) → Answer → Option HostView → Option HostView → Type 0
 HasAnswer Happening Closed None None = Unit {0}
 HasAnswer Happening (Replied reply) (Some old) (Some new) = Goes (Happening reply) old new
 HasAnswer Happening answer old new = ⊥
 
--- The same of a call that copies what it is given: where there is no memory for that, nothing happens behind an open handle.
+-- The same of a call that copies what it is given: where there is no memory for that, nothing happens of an open handle.
 abbrev pub HasAnswerFromCopy : (Reply → System → System → Type 0) → Answer → Option HostView → Option HostView → Type 0
 HasAnswerFromCopy Happening NoMemory (Some old) (Some new) = new ≡ old
 HasAnswerFromCopy Happening answer old new = HasAnswer Happening answer old new

@@ -4,8 +4,8 @@ use Rattle.host_types.specs.declared.fault.Fault.TheVariants.{Program as Unaccep
 use Rattle.host_types.specs.Refusals.{fault_number}
 use Rattle.host_types.specs.declared.options.Opt.{Opt}
 use Rattle.host_types.specs.declared.options.Opt.TheVariants.{PagesToScan, Run, UseZeroPages, MaxPageSharing}
-use Rattle.host_core.specs.declared.event.Reply.{Reply}
-use Rattle.host_core.specs.declared.event.Reply.TheVariants.{Map, Program, Begun, Stepped, Ended, Value, Counters as AreCounters, Refused}
+use Rattle.host_core.specs.declared.reply.Reply.{Reply}
+use Rattle.host_core.specs.declared.reply.Reply.TheVariants.{Map, Program, Begun, Stepped, Ended, Value, Counters as AreCounters, Refused}
 use Rattle.bpf_host_c.specs.declared.answer.Answer.{Answer}
 use Rattle.bpf_host_c.specs.declared.answer.Answer.TheVariants.{Closed, NoMemory, Replied}
 use Rattle.bpf_host_c.specs.declared.structs.BpfHostCounters.{BpfHostCounters}
@@ -34,7 +34,7 @@ abbrev pub run_written : Answer → BpfHostRun → BpfHostRun
 run_written (Replied (Ended number steps)) old = record { ret = number; steps = steps }
 run_written answer old = old
 
--- the counters that were told
+-- the counters that were reported
 abbrev pub counters_written : Answer → BpfHostCounters → BpfHostCounters
 counters_written (Replied (AreCounters counters)) old = record {
   full_scans = counters.full_scans;

@@ -2,3 +2,4 @@ pub mod Owned
 pub mod Codes
 pub mod Answered
 pub mod Life
+pub mod Shapes

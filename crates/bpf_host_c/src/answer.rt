@@ -72,16 +72,16 @@ impl Answer {
     pub(crate) fn write_counters(&self, counters: &mut BpfHostCounters)
         ensures { counters.new ≡ counters_written self.now counters.old }
     {
-        if let Answer::Replied(Reply::Counters(told)) = self {
-            counters.full_scans = told.full_scans;
-            counters.pages_shared = told.pages_shared;
-            counters.pages_sharing = told.pages_sharing;
-            counters.pages_unshared = told.pages_unshared;
-            counters.pages_volatile = told.pages_volatile;
-            counters.ksm_zero_pages = told.ksm_zero_pages;
-            counters.stable_node_chains = told.stable_node_chains;
-            counters.stable_node_dups = told.stable_node_dups;
-            counters.frames_free = told.frames_free;
+        if let Answer::Replied(Reply::Counters(counted)) = self {
+            counters.full_scans = counted.full_scans;
+            counters.pages_shared = counted.pages_shared;
+            counters.pages_sharing = counted.pages_sharing;
+            counters.pages_unshared = counted.pages_unshared;
+            counters.pages_volatile = counted.pages_volatile;
+            counters.ksm_zero_pages = counted.ksm_zero_pages;
+            counters.stable_node_chains = counted.stable_node_chains;
+            counters.stable_node_dups = counted.stable_node_dups;
+            counters.frames_free = counted.frames_free;
         }
     }
 

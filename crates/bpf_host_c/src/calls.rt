@@ -1,5 +1,5 @@
 ghost use Rattle.std.specs.Prelude.{◌≡◌, MatchOption};
-ghost use Rattle.host_core.specs.declared.event.Event.TheVariants.{CreateMap, Load, Begin, HostUpdate, HostLookup, Unload, DropMap, Set, Unmerge, Counters};
+ghost use Rattle.host_types.specs.declared.event.Event.TheVariants.{CreateMap, Load, Begin, HostUpdate, HostLookup, Unload, DropMap, Set, Unmerge, Counters};
 ghost use Rattle.bpf_host_c.specs.declared.answer.Answer.{Answer as CallAnswer};
 ghost use Rattle.bpf_host_c.specs.Answered.{HasAnswer, HasAnswerFromCopy, IsNoOption, Serves};
 ghost use Rattle.bpf_host_c.specs.Codes.{call_code, lookup_code, new_map_number, new_program_number, value_copied, counters_written, refused_written, option_of};
@@ -178,7 +178,7 @@ pub extern "C" fn bpf_host_unmerge(
     answer.code()
 }
 
-/// Tells the counters.
+/// Returns the counters.
 #[unsafe(no_mangle)]
 pub extern "C" fn bpf_host_counters(
     alloc: Global,

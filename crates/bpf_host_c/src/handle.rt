@@ -17,7 +17,7 @@ pub struct BpfHost {
 
 impl BpfHost {
     ghost use Rattle.std.specs.Prelude.{◌≡◌, MatchOption, Some, None, IfOk, IfErr};
-    ghost use Rattle.host_core.specs.declared.event.Event.TheVariants.{Load, Begin, HostUpdate};
+    ghost use Rattle.host_types.specs.declared.event.Event.TheVariants.{Load, Begin, HostUpdate};
     ghost use Rattle.bpf_host_c.specs.Answered.{HasAnswer, HasAnswerFromCopy, IsUnasked, Serves};
 
     /// Takes the host out, which leaves the handle closed.

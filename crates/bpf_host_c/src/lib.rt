@@ -10,6 +10,7 @@ mod loose;
 mod owner;
 mod runs;
 mod scanning;
+mod shape;
 mod structs;
 
 pub use answer::Answer;
@@ -22,4 +23,5 @@ pub use life::{bpf_host_free, bpf_host_new, bpf_host_version};
 pub use owner::Owner;
 pub use runs::{bpf_host_run, bpf_host_step};
 pub use scanning::bpf_host_visit;
-pub use structs::{BpfHostCounters, BpfHostOptions, BpfHostRefused, BpfHostRun};
+pub use shape::bpf_host_shape;
+pub use structs::{BpfHostCounters, BpfHostOptions, BpfHostRefused, BpfHostRun, BpfHostShape};

@@ -53,7 +53,7 @@ pub extern "C" fn bpf_host_step(
     answer.code()
 }
 
-/// Makes steps behind a handle.
+/// Makes steps of a handle.
 fn make_steps(handle: &mut BpfHost, alloc: Global, tenant: u32, steps: u64) -> Answer
     ensures { HasAnswer (Steps tenant steps) result handle.old.owner.host handle.new.owner.host }
 {
@@ -65,7 +65,7 @@ fn make_steps(handle: &mut BpfHost, alloc: Global, tenant: u32, steps: u64) -> A
     Answer::Replied(last.unwrap_or(Reply::Stepped))
 }
 
-/// Makes a whole run behind a handle.
+/// Makes a whole run of a handle.
 fn run_whole(
     handle: &mut BpfHost,
     alloc: Global,
@@ -81,7 +81,7 @@ fn run_whole(
     }
 }
 
-/// Makes a whole run behind a handle on a context of its own.
+/// Makes a whole run of a handle on a context of its own.
 fn run_copied(
     handle: &mut BpfHost,
     alloc: Global,

@@ -9,7 +9,7 @@ use crate::structs::BpfHostCounters;
 use host_core::{Event, Host, Reply};
 use std::alloc::Global;
 
-/// Lets the scanner visit so many pages, and tells the counters after them.
+/// Lets the scanner visit so many pages, and gives the counters after them.
 #[unsafe(no_mangle)]
 pub extern "C" fn bpf_host_visit(
     alloc: Global,
@@ -26,7 +26,7 @@ pub extern "C" fn bpf_host_visit(
     answer.code()
 }
 
-/// Visits pages of the host behind a handle, and counts.
+/// Visits pages of the host of a handle, and counts.
 fn visited(handle: &mut BpfHost, alloc: Global, visits: u32) -> Answer
     ensures { HasAnswer (VisitsAndCounts visits) result handle.old.owner.host handle.new.owner.host }
 {

@@ -19,6 +19,14 @@ pub struct BpfHostRefused {
     pub have: u32,
 }
 
+/// The shape of a map: the bytes of a value, and how many values there are.
+#[repr(C)]
+#[derive(Clone, Copy)]
+pub struct BpfHostShape {
+    pub value_size: u32,
+    pub entries: u32,
+}
+
 /// What a run returned, and how many steps it made.
 #[repr(C)]
 #[derive(Clone, Copy)]

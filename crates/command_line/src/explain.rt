@@ -1,6 +1,6 @@
 //! The words of `explain`.
 
-use crate::{WrongWords, context, hex_or_file, said_of, shapes, told_of, usage};
+use crate::{WrongWords, answered_of, context, hex_or_file, said_of, shapes, usage};
 use clap::{Arg, ArgAction, Command};
 use std::alloc::{AllocError, Global};
 
@@ -24,8 +24,8 @@ pub struct ToExplain<'a> {
 pub fn explained_of<'a>(alloc: Global, words: &'a [String]) -> Result<ToExplain<'a>, WrongWords> {
     let explain = command(alloc).map_err(WrongWords::OutOfMemory)?;
     let Ok(matches) = explain.try_get_matches_from(words) else {
-        let told = told_of(alloc, NAME, words).map_err(WrongWords::OutOfMemory)?;
-        return Err(usage(said_of(alloc, command(alloc), told.as_slice())));
+        let answered = answered_of(alloc, NAME, words).map_err(WrongWords::OutOfMemory)?;
+        return Err(usage(said_of(alloc, command(alloc), answered.as_slice())));
     };
     let Some(hex) = matches.get_str("HEX") else {
         return Err(usage(String::from_str(alloc, "no HEX is given")));

@@ -25,7 +25,7 @@ pub enum Request<'a> {
     Serve {
         path: &'a str,
     },
-    /// To judge the program of a hex text, with maps of these shapes and a context of a size. The
+    /// To verify the program of a hex text, with maps of these shapes and a context of a size. The
     /// words are as they were given.
     Check {
         hex: &'a str,
@@ -37,7 +37,7 @@ pub enum Request<'a> {
 /// Why words ask for nothing.
 #[derive(Debug, Drop)]
 pub enum WrongWords {
-    /// They make no request. What is told repeats at most 40 characters of a word.
+    /// They make no request. What is reported repeats at most 40 characters of a word.
     Usage(String),
     OutOfMemory(AllocError),
 }
@@ -47,8 +47,8 @@ pub enum WrongWords {
 pub fn request_of<'a>(alloc: Global, words: &'a [String]) -> Result<Request<'a>, WrongWords> {
     let host = command(alloc).map_err(WrongWords::OutOfMemory)?;
     let Ok(matches) = host.try_get_matches_from(words) else {
-        let told = told_of(alloc, NAME, words).map_err(WrongWords::OutOfMemory)?;
-        return Err(usage(said_of(alloc, command(alloc), told.as_slice())));
+        let answered = answered_of(alloc, NAME, words).map_err(WrongWords::OutOfMemory)?;
+        return Err(usage(said_of(alloc, command(alloc), answered.as_slice())));
     };
     if let Some(check) = matches.subcommand_matches("check") {
         return check_of(alloc, check);
@@ -67,24 +67,24 @@ fn path_of<'a>(matches: &ArgMatches<'a>, name: &str) -> Option<&'a str> {
     matches.subcommand_matches(name)?.get_str("FILE")
 }
 
-/// Words as they are told: cut as words from outside are. The first of them is the program's own path, of which just
-/// the name is told.
-fn told_of(alloc: Global, name: &str, words: &[String]) -> Result<Vec<String>, AllocError> {
-    let mut told = Vec::new(alloc);
-    told.push(String::from_str(alloc, name)?)?;
+/// Words as they are reported: cut as words from outside are. The first of them is the program's own path, of which just
+/// the name is reported.
+fn answered_of(alloc: Global, name: &str, words: &[String]) -> Result<Vec<String>, AllocError> {
+    let mut answered = Vec::new(alloc);
+    answered.push(String::from_str(alloc, name)?)?;
     for word in words.iter().skip(1) {
-        told.push(quoted(alloc, word.as_str())?)?;
+        answered.push(quoted(alloc, word.as_str())?)?;
     }
-    Ok(told)
+    Ok(answered)
 }
 
-/// What a command says of words that make no request, as they are told: these make none either.
+/// What a command says of words that make no request, as they are reported: these make none either.
 fn said_of<'a>(
     alloc: Global,
     command: Result<Command<'a>, AllocError>,
-    told: &'a [String],
+    answered: &'a [String],
 ) -> Result<String, AllocError> {
-    match command?.try_get_matches_from(told) {
+    match command?.try_get_matches_from(answered) {
         Ok(_) => String::from_str(alloc, "the words make no request"),
         Err(error) => error.to_string(alloc),
     }

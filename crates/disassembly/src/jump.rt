@@ -5,7 +5,7 @@ use std::fmt;
 /// Where a jump leads, as it is shown.
 #[derive(Clone, Copy)]
 pub enum Goal {
-    /// So many slots behind the next instruction.
+    /// So many slots after the next instruction.
     Distance(i32),
     /// To this slot.
     Slot(i64),

@@ -2,19 +2,19 @@ use crate::operand::Operand;
 use bpf_decode::{Extension, Insn, Size, Source, Width};
 use std::fmt;
 
-/// A place in memory and the number that lies there: `*(u32 *)(r10 - 4)`.
+/// An operand in memory and the number that lies there: `*(u32 *)(r10 - 4)`.
 #[derive(Clone, Copy)]
-struct Place {
+struct MemoryOperand {
     number: &'static str,
     base: u8,
     offset: i16,
 }
 
-impl Place {
-    /// The place at an instruction's offset from a register.
-    fn of(insn: &Insn, number: &'static str, base: u8) -> Place {
+impl MemoryOperand {
+    /// The operand at an instruction's offset from a register.
+    fn of(insn: &Insn, number: &'static str, base: u8) -> MemoryOperand {
         let offset = insn.offset;
-        Place {
+        MemoryOperand {
             number,
             base,
             offset,
@@ -22,7 +22,7 @@ impl Place {
     }
 }
 
-impl fmt::Display for Place {
+impl fmt::Display for MemoryOperand {
     fn fmt<W: fmt::Write>(&self, f: &mut fmt::Formatter<W>) -> fmt::Result {
         let sign = if self.offset < 0 { '-' } else { '+' };
         let bytes = self.offset.unsigned_abs();
@@ -41,7 +41,12 @@ pub fn write_load<W: fmt::Write>(
         Extension::Zero => unsigned(size),
         Extension::Sign => signed(size),
     };
-    write!(f, "r{} = {}", insn.dst, Place::of(insn, number, insn.src))
+    write!(
+        f,
+        "r{} = {}",
+        insn.dst,
+        MemoryOperand::of(insn, number, insn.src)
+    )
 }
 
 /// Writes a store to memory.
@@ -51,9 +56,9 @@ pub fn write_store<W: fmt::Write>(
     size: Size,
     source: Source,
 ) -> fmt::Result {
-    let place = Place::of(insn, unsigned(size), insn.dst);
+    let memory = MemoryOperand::of(insn, unsigned(size), insn.dst);
     let operand = Operand::of(insn, Width::Bits64, source);
-    write!(f, "{place} = {operand}")
+    write!(f, "{memory} = {operand}")
 }
 
 /// Writes a wide instruction. The assembler has no word for the name of a map, nor for an address in its

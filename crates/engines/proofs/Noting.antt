@@ -2,13 +2,14 @@
 use Rattle.std.proofs.Common.{◌≡◌, ℕ, zero, suc, ◌≤◌, Bool, true, false, ◌||◌, List, [], ◌∷◌, ◌++◌, replicate, length, take, min, arith, ◌+◌, option_map, length-take, length-append, Option, Some, None, Result, Ok, Err, is_ok, OnOk, append_assoc, append-nil, sym, ap, ap₂, refl, ◌∙◌, subst, subst₂, unwrap_or, IfSome, IsSome, true≢false, if◌then◌else◌}
 use mir.Val.{bool_byte}
 use Rattle.std.specs.Io.KnownBytes.{Appends, Keeps}
-use Rattle.host_core.specs.declared.event.Event.{Event}
-use Rattle.host_core.specs.declared.event.Event.TheVariants.{Step, Visit}
-use Rattle.host_core.specs.declared.event.Reply.{Reply}
-use Rattle.host_core.specs.declared.event.Reply.TheVariants.{Map, Program, Begun, Stepped, Ended, Visited, Done, Value, Counters, Refused}
+use Rattle.host_types.specs.declared.event.Event.{Event}
+use Rattle.host_types.specs.declared.event.Event.TheVariants.{Step, Visit}
+use Rattle.host_core.specs.declared.reply.Reply.{Reply}
+use Rattle.host_core.specs.declared.reply.Reply.TheVariants.{Map, Program, Begun, Stepped, Ended, Visited, Done, Value, Counters, Refused}
 use Rattle.host_core.specs.World.{System, IsCovered, new_system}
 use Rattle.host_core.specs.Happens.{Happens, IsPromised, AllHappen, AreSteps, StepsHappen}
-use Rattle.host_core.specs.HostView.{HostView, StandsForSystem, tenant_of}
+use Rattle.host_core.specs.HostView.{HostView, StandsForSystem}
+use Rattle.host_types.specs.Events.{tenant_of}
 use Rattle.host_file.specs.declared.command.Command.{Command}
 use Rattle.host_file.specs.declared.command.Command.TheVariants.{Apply, Finish, Run}
 use Rattle.host_file.specs.declared.command.Command.TheVariants as command
@@ -21,7 +22,7 @@ use Rattle.engines.specs.declared.session.Session.{Session}
 use Rattle.host_types.specs.Refusals.{refusal_text}
 use Rattle.engines.specs.Lines.{line_of, reply_lines}
 use Rattle.engines.specs.Replay.{AreOf, AreOfAll, AreIfBegun, AreStepsUpTo, AreStepsToEnd, AreVisits, IsReplayed, refused, happened, latest_run, begun_after, pages_after, pages_by, lines_from, is_refusal, has_refusal}
-use Rattle.engines.specs.Sessions.{AreStepsMade, HasTold, HasNoted, IsOneEvent, Performs, begun_by}
+use Rattle.engines.specs.Sessions.{AreStepsMade, HasPrinted, HasNoted, IsOneEvent, Performs, begun_by}
 
 -- an output that took nothing
 pub Appends-none : (known : Option (List ℕ)) → Appends known known []
@@ -165,34 +166,34 @@ refusal-stepped (suc n) = refusal-stepped n
 abbrev pub with_host : Session → HostView → Session
 with_host s host = record s { host = host }
 
--- one event whose reply was told
-pub noted-told : (w next : System) (host : HostView) (event : Event) (reply : Reply) (old new : Session) (was is : Option (List ℕ))
+-- one event whose reply was reported
+pub noted-printed : (w next : System) (host : HostView) (event : Event) (reply : Reply) (old new : Session) (was is : Option (List ℕ))
     → StandsForSystem host next → Happens w event reply next → IsPromised w event reply next → IsCovered next
-    → HasTold event reply (with_host old host) new was is → HasNoted (event ∷ []) (reply ∷ []) w next old new was is
-noted-told w next host event reply old new was is stands happens promised covered told = record {
-  stands = subst (λ h. StandsForSystem h next) (sym told.host) stands;
+    → HasPrinted event reply (with_host old host) new was is → HasNoted (event ∷ []) (reply ∷ []) w next old new was is
+noted-printed w next host event reply old new was is stands happens promised covered printed = record {
+  stands = subst (λ h. StandsForSystem h next) (sym printed.host) stands;
   happen = (next, happens, promised, covered, refl);
-  begun = told.begun;
-  pages = told.pages;
-  refused = told.refused ∙ ap (λ b. old.has_refused || b) (sym (or-false (is_refusal reply)));
-  written = subst (Appends was is) (sym (append-nil (reply_lines event (latest_run old.begun.items (tenant_of event)) reply))) told.written;
+  begun = printed.begun;
+  pages = printed.pages;
+  refused = printed.refused ∙ ap (λ b. old.has_refused || b) (sym (or-false (is_refusal reply)));
+  written = subst (Appends was is) (sym (append-nil (reply_lines event (latest_run old.begun.items (tenant_of event)) reply))) printed.written;
 }
 
--- steps the last of which was told
+-- steps the last of which was reported
 pub noted-steps : (w next : System) (host : HostView) (t limit : ℕ) (last : Reply) (events : List Event) (replies : List Reply) (old new : Session) (was is : Option (List ℕ))
     → StandsForSystem host next → AreSteps t limit (Some last) events replies → AllHappen w events replies next
-    → HasTold (Step t) last (with_host old host) new was is → HasNoted events replies w next old new was is
-noted-steps w next host t limit last events replies old new was is stands (n, few, other, steps, answers) happen told =
+    → HasPrinted (Step t) last (with_host old host) new was is → HasNoted events replies w next old new was is
+noted-steps w next host t limit last events replies old new was is stands (n, few, other, steps, answers) happen printed =
     let begun = old.begun.items in
     let some = replicate n (Step t) ++ Step t ∷ [] in
     let answered = replicate n Stepped ++ last ∷ [] in
     subst₂ (λ es rs. HasNoted es rs w next old new was is) (sym steps) (sym answers) (record {
-      stands = subst (λ h. StandsForSystem h next) (sym told.host) stands;
+      stands = subst (λ h. StandsForSystem h next) (sym printed.host) stands;
       happen = subst₂ (λ es rs. AllHappen w es rs next) steps answers happen;
-      begun = told.begun ∙ sym (begun-steps n t last begun);
-      pages = told.pages ∙ sym (pages-steps n t last old.pages_to_scan);
-      refused = told.refused ∙ ap (λ b. old.has_refused || b) (sym (refusal-steps n last));
-      written = subst (Appends was is) (sym (lines-steps n t last begun)) told.written;
+      begun = printed.begun ∙ sym (begun-steps n t last begun);
+      pages = printed.pages ∙ sym (pages-steps n t last old.pages_to_scan);
+      refused = printed.refused ∙ ap (λ b. old.has_refused || b) (sym (refusal-steps n last));
+      written = subst (Appends was is) (sym (lines-steps n t last begun)) printed.written;
     })
 
 -- steps that are answered Stepped alone
@@ -231,14 +232,14 @@ made-to_end t limit great events replies (Some last, steps, ends) = (limit, last
 abbrev pub Makes : HostView → HostView → ℕ → ℕ → Option Reply → Type 0
 Makes old new t limit last = (w : System) → StandsForSystem old w → (next : System) × StandsForSystem new next × StepsHappen w t limit last next
 
--- steps of which the last was told
+-- steps of which the last was reported
 pub performs-steps : (host : HostView) (t limit : ℕ) (last : Reply) (old new : Session) (was is : Option (List ℕ))
-    → Makes old.host host t limit (Some last) → HasTold (Step t) last (with_host old host) new was is → Performs (AreStepsMade t limit) old new was is
-performs-steps host t limit last old new was is makes told w stands =
+    → Makes old.host host t limit (Some last) → HasPrinted (Step t) last (with_host old host) new was is → Performs (AreStepsMade t limit) old new was is
+performs-steps host t limit last old new was is makes printed w stands =
     let (next, stands', (events, replies, steps, happen)) = makes w stands in
-    (events, replies, next, (Some last, steps, λ great. refl), noted-steps w next host t limit last events replies old new was is stands' steps happen told)
+    (events, replies, next, (Some last, steps, λ great. refl), noted-steps w next host t limit last events replies old new was is stands' steps happen printed)
 
--- steps of which none was told
+-- steps of which none was reported
 pub performs-stepped : (host : HostView) (t limit : ℕ) (old : Session) (was : Option (List ℕ))
     → Makes old.host host t limit None → (4294967296 ≤ limit → IsSome {T = Reply} None) → Performs (AreStepsMade t limit) old (with_host old host) was was
 performs-stepped host t limit old was makes ends w stands =
@@ -246,13 +247,13 @@ performs-stepped host t limit old was makes ends w stands =
     (events, replies, next, (None, steps, ends), noted-stepped w next host t limit events replies old was stands' steps happen)
 
 -- an event that happened alone
-pub performs-told : (host : HostView) (event : Event) (reply : Reply) (old new : Session) (was is : Option (List ℕ))
+pub performs-printed : (host : HostView) (event : Event) (reply : Reply) (old new : Session) (was is : Option (List ℕ))
     → ((x : System) → StandsForSystem old.host x
     → (next : System) × StandsForSystem host next × Happens x event reply next × IsPromised x event reply next × IsCovered next)
-    → HasTold event reply (with_host old host) new was is → Performs (IsOneEvent event reply) old new was is
-performs-told host event reply old new was is happens told w stands =
+    → HasPrinted event reply (with_host old host) new was is → Performs (IsOneEvent event reply) old new was is
+performs-printed host event reply old new was is happens printed w stands =
     let (next, stands', happen, promised, covered) = happens w stands in
-    (event ∷ [], reply ∷ [], next, (refl, refl), noted-told w next host event reply old new was is stands' happen promised covered told)
+    (event ∷ [], reply ∷ [], next, (refl, refl), noted-printed w next host event reply old new was is stands' happen promised covered printed)
 
 -- a run that began and went on
 pub performs-run : (pages t : ℕ) (event : Event) (old half new : Session) (was mid_way is : Option (List ℕ)) → tenant_of event ≡ Some t
@@ -359,8 +360,8 @@ of-as_long : (pages : ℕ) (command : Command) (events : List Event) (replies : 
 of-as_long pages (Apply event) events replies (reply, one, answer) = ap length one ∙ sym (ap length answer)
 of-as_long pages (command.Step t count) events replies (last, steps) = steps-as_long t count last events replies steps
 of-as_long pages (Finish t) events replies (limit, last, steps) = steps-as_long t limit (Some last) events replies steps
-of-as_long pages (Run event) events replies (reply, more, further, are, tell, begun) =
-    ap length are ∙ ap suc (begun-as_long (tenant_of event) reply more further begun) ∙ sym (ap length tell)
+of-as_long pages (Run event) events replies (reply, more, further, are, print, begun) =
+    ap length are ∙ ap suc (begun-as_long (tenant_of event) reply more further begun) ∙ sym (ap length print)
 of-as_long pages (command.Visit count) events replies (visits, counted) =
     ap length visits ∙ length-replicate (unwrap_or count pages) Visit ∙ sym counted
 
@@ -382,15 +383,15 @@ are_of-push pages [] command events more replies further (none, no_reply) one = 
   subst₂ (λ es rs. AreOf (pages_by pages es rs) command more further) none no_reply one,
   (refl, refl),
 )
-are_of-push pages (c ∷ commands) command events more replies further (first, rest, replied, answered, are, tell, of_first, of_rest) one =
+are_of-push pages (c ∷ commands) command events more replies further (first, rest, replied, answered, are, print, of_first, of_rest) one =
     let after : pages_by pages events replies ≡ pages_by (pages_by pages first replied) rest answered =
-    ap₂ (λ es rs. pages_by pages es rs) are tell ∙ pages-join first rest replied answered pages (of-as_long pages c first replied of_first) in (
+    ap₂ (λ es rs. pages_by pages es rs) are print ∙ pages-join first rest replied answered pages (of-as_long pages c first replied of_first) in (
       first,
       rest ++ more,
       replied,
       answered ++ further,
       ap (λ es. es ++ more) are ∙ append_assoc first rest more,
-      ap (λ rs. rs ++ further) tell ∙ append_assoc replied answered further,
+      ap (λ rs. rs ++ further) print ∙ append_assoc replied answered further,
       of_first,
       are_of-push (pages_by pages first replied) commands command rest more answered further of_rest
           (subst (λ p. AreOf p command more further) after one),
@@ -420,17 +421,17 @@ pub replayed-performed : (file : HostFile) (old new : Session) (was is : Option 
     → StandsForSystem old.host (new_system file.frames file.tenants file.options) → old.begun.items ≡ replicate file.tenants 0
     → old.pages_to_scan ≡ file.options.pages_to_scan → old.has_refused ≡ false
     → Performs (AreOfAll old.pages_to_scan file.commands) old new was is → status ≡ (if new.has_refused then 1 else 0) → IsReplayed file was is status
-replayed-performed file old new was is status stands begun pages clean performs told =
+replayed-performed file old new was is status stands begun pages clean performs printed =
     let (events, replies, next, are, noted) = performs (new_system file.frames file.tenants file.options) stands in
     happened events replies next (subst (λ p. AreOfAll p file.commands events replies) pages are) noted.happen
-    (told ∙ ap (λ b. if b then 1 else 0) (noted.refused ∙ ap (λ b. b || has_refusal replies) clean))
+    (printed ∙ ap (λ b. if b then 1 else 0) (noted.refused ∙ ap (λ b. b || has_refusal replies) clean))
     (subst (λ counts. Appends was is (lines_from counts events replies)) begun noted.written)
 
 -- an output that was passed on
 replayed-kept : (file : HostFile) (was half is : Option (List ℕ)) (status : ℕ) → Keeps half is → IsReplayed file was half status → IsReplayed file was is status
-replayed-kept file was half is status kept (refused fault why told took) = refused fault why told (Appends-kept was half is (line_of (refusal_text fault)) took kept)
-replayed-kept file was half is status kept (happened events replies w are happen told took) =
-    happened events replies w are happen told (Appends-kept was half is (lines_from (replicate file.tenants 0) events replies) took kept)
+replayed-kept file was half is status kept (refused fault why printed took) = refused fault why printed (Appends-kept was half is (line_of (refusal_text fault)) took kept)
+replayed-kept file was half is status kept (happened events replies w are happen printed took) =
+    happened events replies w are happen printed (Appends-kept was half is (lines_from (replicate file.tenants 0) events replies) took kept)
 
 -- and where what was read is known
 pub replayed-read : (read : Option (List ℕ)) (file : HostFile) (was half is : Option (List ℕ)) (status : ℕ)

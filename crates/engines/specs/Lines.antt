@@ -3,11 +3,11 @@ use Rattle.std.specs.Prelude.{ℕ, List, [], ◌∷◌, ◌++◌, codes, decimal
 use Rattle.host_types.specs.Refusals.{refusal_text}
 use Rattle.hex.specs.Hex.{encode_lower}
 use Rattle.ksm_counters.specs.Counters.{counters_text}
-use Rattle.host_core.specs.declared.event.Event.{Event}
-use Rattle.host_core.specs.declared.event.Event.TheVariants.{HostLookup}
-use Rattle.host_core.specs.declared.event.Reply.{Reply}
-use Rattle.host_core.specs.declared.event.Reply.TheVariants.{Ended, Value, Counters, Refused}
-use Rattle.host_core.specs.HostView.{tenant_of}
+use Rattle.host_types.specs.declared.event.Event.{Event}
+use Rattle.host_types.specs.declared.event.Event.TheVariants.{HostLookup}
+use Rattle.host_core.specs.declared.reply.Reply.{Reply}
+use Rattle.host_core.specs.declared.reply.Reply.TheVariants.{Ended, Value, Counters, Refused}
+use Rattle.host_types.specs.Events.{tenant_of}
 
 -- a text and its newline
 abbrev pub line_of : List ℕ → List ℕ
@@ -19,12 +19,12 @@ tenant_front None = []
 tenant_front (Some t) = codes "tenant " ++ decimal t ++ codes " "
 
 -- where a value stands
-abbrev pub place_text : ℕ → ℕ → ℕ → List ℕ
-place_text t m key = codes "tenant " ++ decimal t ++ codes " map " ++ decimal m ++ codes " key " ++ decimal key ++ codes " "
+abbrev pub location_text : ℕ → ℕ → ℕ → List ℕ
+location_text t m key = codes "tenant " ++ decimal t ++ codes " map " ++ decimal m ++ codes " key " ++ decimal key ++ codes " "
 
--- the line of a value that an event looked up: its place, and the bytes as hex text in lower case
+-- the line of a value that an event looked up: its location, and the bytes as hex text in lower case
 abbrev pub value_line : Event → List ℕ → List ℕ
-value_line (HostLookup t m key) value = line_of (place_text t m key ++ encode_lower value)
+value_line (HostLookup t m key) value = line_of (location_text t m key ++ encode_lower value)
 value_line event value = []
 
 -- what is written of a reply to an event whose tenant's latest run has a number: the line of a run's end, of a

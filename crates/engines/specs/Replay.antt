@@ -4,13 +4,13 @@ use Rattle.std.specs.Io.KnownBytes.{Appends}
 use Rattle.host_types.specs.declared.fault.Fault.{Fault}
 use Rattle.host_types.specs.declared.options.Opt.TheVariants.{PagesToScan}
 use Rattle.page_table.specs.Changes.{RefusesMemory}
-use Rattle.host_core.specs.declared.event.Event.{Event}
-use Rattle.host_core.specs.declared.event.Event.TheVariants.{Visit, Set}
-use Rattle.host_core.specs.declared.event.Reply.{Reply}
-use Rattle.host_core.specs.declared.event.Reply.TheVariants.{Begun, Done, Refused}
+use Rattle.host_types.specs.declared.event.Event.{Event}
+use Rattle.host_types.specs.declared.event.Event.TheVariants.{Visit, Set}
+use Rattle.host_core.specs.declared.reply.Reply.{Reply}
+use Rattle.host_core.specs.declared.reply.Reply.TheVariants.{Begun, Done, Refused}
 use Rattle.host_core.specs.World.{System, new_system}
 use Rattle.host_core.specs.Happens.{AllHappen, AreSteps}
-use Rattle.host_core.specs.HostView.{tenant_of}
+use Rattle.host_types.specs.Events.{tenant_of}
 use Rattle.host_file.specs.declared.command.Command.{Command}
 use Rattle.host_file.specs.declared.command.Command.TheVariants.{Apply, Step, Finish, Run}
 use Rattle.host_file.specs.declared.command.Command.TheVariants as command
@@ -101,7 +101,7 @@ has_refusal (reply ∷ replies) = is_refusal reply || has_refusal replies
 abbrev pub status_after : List Reply → ℕ
 status_after replies = if has_refusal replies then 1 else 0
 
--- A status and what an output took tell what the events of a file did to a new host: the refusal of the host
+-- A status and what an output took say what the events of a file did to a new host: the refusal of the host
 -- itself, or the lines of the replies to the events of the file's commands, in their order.
 pub data IsReplayed (file : HostFile) (old new : Option (List ℕ)) (status : ℕ) : Type 0 where
   refused : (fault : Fault) → RefusesMemory file.frames file.tenants file.options fault → status ≡ 1 → Appends old new (line_of (refusal_text fault)) → IsReplayed file old new status

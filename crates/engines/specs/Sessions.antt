@@ -1,11 +1,12 @@
 -- What a session does to its host and to the output, one command after the other.
 use Rattle.std.specs.Prelude.{◌≡◌, ℕ, ◌≤◌, ◌||◌, List, [], ◌∷◌, Option, IsSome}
 use Rattle.std.specs.Io.KnownBytes.{Appends}
-use Rattle.host_core.specs.declared.event.Event.{Event}
-use Rattle.host_core.specs.declared.event.Reply.{Reply}
+use Rattle.host_types.specs.declared.event.Event.{Event}
+use Rattle.host_core.specs.declared.reply.Reply.{Reply}
 use Rattle.host_core.specs.World.{System}
 use Rattle.host_core.specs.Happens.{AllHappen, AreSteps}
-use Rattle.host_core.specs.HostView.{StandsForSystem, tenant_of}
+use Rattle.host_core.specs.HostView.{StandsForSystem}
+use Rattle.host_types.specs.Events.{tenant_of}
 use Rattle.engines.specs.declared.session.Session.{Session}
 use Rattle.engines.specs.Lines.{reply_lines}
 use Rattle.engines.specs.Replay.{latest_run, begun_after, pages_after, pages_by, lines_from, is_refusal, has_refusal}
@@ -20,7 +21,7 @@ abbrev pub AreStepsMade : ℕ → ℕ → List Event → List Reply → Type 0
 AreStepsMade t limit events replies = (last : Option Reply) × AreSteps t limit last events replies × (4294967296 ≤ limit → IsSome last)
 
 -- a session noted a reply to an event, and the output took its lines; the host is as it was
-pub record HasTold (event : Event) (reply : Reply) (old new : Session) (was is : Option (List ℕ)) : Type 0 where
+pub record HasPrinted (event : Event) (reply : Reply) (old new : Session) (was is : Option (List ℕ)) : Type 0 where
   pub host : new.host ≡ old.host
   pub begun : new.begun.items ≡ begun_after old.begun.items event reply
   pub pages : new.pages_to_scan ≡ pages_after old.pages_to_scan event reply

@@ -1,4 +1,4 @@
-//! The engine of `check`: one program, judged and not run.
+//! The engine of `check`: one program, verified and not run.
 
 ghost use Rattle.std.specs.Prelude.{◌≡◌, ◌≤◌, ◌↔◌, IfErr, IfOk, IfSome, IsTrue, OnErr, OnOk};
 ghost use Rattle.std.specs.Io.KnownBytes.{Appends};
@@ -9,22 +9,22 @@ ghost use Rattle.engines.specs.Check.{AnswersWords, AskNothing, IsAccepted, IsCh
 ghost use Rattle.engines.specs.Lines.{line_of};
 
 mod acceptance;
-pub(crate) mod question;
+pub(crate) mod request;
 
 use crate::explanation::explain_check;
 use crate::fault::written;
 use crate::lines::write_refusal;
 use acceptance::Acceptance;
-use host_calls::judge;
+use host_calls::decode_and_verify;
 use host_file::FileFault;
 use host_types::limits::MAX_MAPS;
 use host_types::{Fault, Shape};
-pub use question::{Question, question_of};
+pub use request::{CheckRequest, check_request_of};
 use std::alloc::Global;
 use std::io::Write;
 use verifier::{Verified, is_context_size};
 
-/// Judges the program that the words of a command line ask for: hex text, the shapes of its maps,
+/// Verifies the program that the words of a command line ask for: hex text, the shapes of its maps,
 /// and the size of its context. The output gets one line: that it is accepted, with its slots, its
 /// instructions and its reserve, or the refusal; and what the refusal means goes to `words`. Answers
 /// the status: 0, or 1 for a refusal. Words that can't be read write nothing.
@@ -34,32 +34,32 @@ pub fn check<W: Write, E: Write>(
     shapes: &[&str],
     context: &str,
     output: &mut W,
-    words: &mut E,
+    diagnostics: &mut E,
 ) -> Result<u8, FileFault>
     ensures status { IfOk result (λ status. status ≤ 1) }
-    ensures judged { IfOk result (AnswersWords hex.now shapes.now context.now (W.contents output.old) (W.contents output.new)) }
+    ensures verdict { IfOk result (AnswersWords hex.now shapes.now context.now (W.contents output.old) (W.contents output.new)) }
     ensures usage { IfErr result (λ fault. IsUsage fault → AskNothing hex.now shapes.now context.now) }
     ensures unwritten { IfErr result (λ fault. IsOfWords fault → output.new ≡ output.old) }
-    ensures silent { OnErr result (words.new ≡ words.old) }
+    ensures silent { OnErr result (diagnostics.new ≡ diagnostics.old) }
 {
-    let asked = question_of(alloc, hex, shapes, context)?;
+    let asked = check_request_of(alloc, hex, shapes, context)?;
     match judgement(alloc, &asked) {
         Ok(program) => {
-            tell_accepted(output, &program)?;
+            print_accepted(output, &program)?;
             Ok(0)
         }
         Err(fault) => {
             write_refusal(output, fault)?;
             // The answer is written: what it means may be lost.
-            let _ = explain_check(alloc, words, &asked, fault);
+            let _ = explain_check(alloc, diagnostics, &asked, fault);
             Ok(1)
         }
     }
 }
 
-/// Judges a program. How many maps it has is looked at first, then their shapes, then the size of its
+/// Verifies a program. How many maps it has is looked at first, then their shapes, then the size of its
 /// context.
-fn judgement(alloc: Global, asked: &Question) -> Result<Verified, Fault>
+fn judgement(alloc: Global, asked: &CheckRequest) -> Result<Verified, Fault>
     ensures accepted { IfOk result (IsAccepted (subject_asked asked.now)) }
     ensures refused { IfErr result (IsCheckRefusal asked.now) }
 {
@@ -73,7 +73,7 @@ fn judgement(alloc: Global, asked: &Question) -> Result<Verified, Fault>
     if !is_context_size(asked.context_size) {
         return Err(Fault::BadContext);
     }
-    judge(alloc, shapes, asked.text.as_slice(), asked.context_size)
+    decode_and_verify(alloc, shapes, asked.text.as_slice(), asked.context_size)
 }
 
 /// Whether a map may have a shape, if there is one.
@@ -87,10 +87,10 @@ fn may_be(shape: &Option<Shape>) -> bool
 }
 
 /// Writes that a program is accepted, and passes it on.
-fn tell_accepted<W: Write>(output: &mut W, program: &Verified) -> Result<(), FileFault>
+fn print_accepted<W: Write>(output: &mut W, program: &Verified) -> Result<(), FileFault>
     ensures line { OnOk result (Appends (W.contents output.old) (W.contents output.new) (line_of (acceptance_of program.now))) }
     ensures bad { IfErr result (λ fault. ¬ IsBad fault) }
-    ensures words { IfErr result (λ fault. ¬ IsOfWords fault) }
+    ensures diagnostics { IfErr result (λ fault. ¬ IsOfWords fault) }
 {
     let acceptance = Acceptance::of(program);
     written(writeln!(output, "{acceptance}"))?;

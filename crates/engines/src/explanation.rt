@@ -3,7 +3,7 @@
 ghost use Rattle.std.specs.Prelude.{◌≡◌, ◌<◌, ◌%◌, length};
 ghost use Rattle.bpf_decode.specs.Text.{slots_of};
 
-use crate::check::question::Question;
+use crate::check::request::CheckRequest;
 use advice::{
     Advice, advice_on, advice_on_text, on_context_length, on_context_size, on_frames_for_map,
     on_frames_for_run, on_frames_for_unmerging, on_frames_for_update, on_host_size, on_map_count,
@@ -11,7 +11,7 @@ use advice::{
 };
 use bpf_decode::Insn;
 use disassembly::Assembly;
-use findings::{Judged, write_findings};
+use findings::{Verdict, write_findings};
 use host_core::Event;
 use host_file::HostFile;
 use host_types::rule::{BAD_LENGTH, CUT_WIDE};
@@ -23,53 +23,53 @@ use std::io::Write;
 /// Writes what the refusal of a program means that was to be checked, and what was known where it is refused.
 pub fn explain_check<W: Write>(
     alloc: Global,
-    words: &mut W,
-    asked: &Question,
+    diagnostics: &mut W,
+    asked: &CheckRequest,
     fault: Fault,
 ) -> io::Result<()> {
     let advice = match fault {
-        Fault::Program(refused) => return explain_checked(alloc, words, asked, refused),
+        Fault::Program(refused) => return explain_checked(alloc, diagnostics, asked, refused),
         Fault::TooManyMaps => Some(on_shape_count()),
         Fault::BadShape => Some(on_shape()),
         Fault::BadContext => Some(on_context_size()),
         _ => advice_on(fault.number()),
     };
-    write_advice(words, fault, advice)?;
-    writeln!(words)
+    write_advice(diagnostics, fault, advice)?;
+    writeln!(diagnostics)
 }
 
 /// Writes the refusal of a text that was to be checked.
 fn explain_checked<W: Write>(
     alloc: Global,
-    words: &mut W,
-    asked: &Question,
+    diagnostics: &mut W,
+    asked: &CheckRequest,
     refused: Refused,
 ) -> io::Result<()> {
-    let judged = Judged {
+    let verdict = Verdict {
         text: asked.text.as_slice(),
         shapes: asked.shapes.as_slice(),
         context_size: asked.context_size,
     };
-    explain_judged(alloc, words, &judged, refused)?;
-    writeln!(words)
+    explain_verdict(alloc, diagnostics, &verdict, refused)?;
+    writeln!(diagnostics)
 }
 
 /// Writes the refusal of a text, and what was known there.
-fn explain_judged<W: Write>(
+fn explain_verdict<W: Write>(
     alloc: Global,
-    words: &mut W,
-    judged: &Judged<'_>,
+    diagnostics: &mut W,
+    verdict: &Verdict<'_>,
     refused: Refused,
 ) -> io::Result<()> {
-    explain_program(words, judged.text, refused)?;
-    write_findings(alloc, words, judged, refused)
+    explain_program(diagnostics, verdict.text, refused)?;
+    write_findings(alloc, diagnostics, verdict, refused)
 }
 
 /// Writes what the refusal of an event means. Of a program that was to be loaded, the maps of its tenant have these
 /// shapes by number.
 pub fn explain_event<W: Write>(
     alloc: Global,
-    words: &mut W,
+    diagnostics: &mut W,
     event: &Event,
     fault: Fault,
     shapes: &[Option<Shape>],
@@ -83,16 +83,16 @@ pub fn explain_event<W: Write>(
             },
             Fault::Program(refused),
         ) => {
-            let judged = Judged {
+            let verdict = Verdict {
                 text: text.as_slice(),
                 shapes,
                 context_size: *context_size,
             };
-            explain_judged(alloc, words, &judged, refused)?;
+            explain_verdict(alloc, diagnostics, &verdict, refused)?;
         }
-        _ => write_advice(words, fault, advice_on_event(event, fault))?,
+        _ => write_advice(diagnostics, fault, advice_on_event(event, fault))?,
     }
-    writeln!(words)
+    writeln!(diagnostics)
 }
 
 /// The advice on the refusal of an event by its number and by what was to be done.
@@ -114,19 +114,23 @@ fn advice_on_event(event: &Event, fault: Fault) -> Option<Advice> {
 
 /// Writes what the refusal of the host of a file means.
 pub(crate) fn explain_host<W: Write>(
-    words: &mut W,
+    diagnostics: &mut W,
     file: &HostFile,
     fault: Fault,
 ) -> io::Result<()> {
     match (fault, wrong_option(&file.options)) {
         (Fault::BadShape, _) => {
             let advice = on_host_size(file.frames, file.tenants);
-            write_advice(words, fault, Some(advice))?;
+            write_advice(diagnostics, fault, Some(advice))?;
         }
-        (Fault::BadOption, Some(option)) => write_advice(words, fault, Some(on_option(option)))?,
-        _ => write_advice(words, fault, advice_on(fault.number()))?,
+        (Fault::BadOption, Some(option)) => write_advice(
+            diagnostics,
+            fault,
+            Some(on_option(option)),
+        )?,
+        _ => write_advice(diagnostics, fault, advice_on(fault.number()))?,
     }
-    writeln!(words)
+    writeln!(diagnostics)
 }
 
 /// The first option that can't have its value.
@@ -147,22 +151,30 @@ fn wrong_option(options: &Options) -> Option<Opt> {
 
 /// Writes the refusal of a text: the slot that it names and what stands there, the rule, and how to mend
 /// it.
-fn explain_program<W: Write>(words: &mut W, text: &[u8], refused: Refused) -> io::Result<()> {
-    write!(words, "slot {}: ", refused.slot)?;
-    write_what_stands(words, text, refused)?;
+fn explain_program<W: Write>(diagnostics: &mut W, text: &[u8], refused: Refused) -> io::Result<()> {
+    write!(diagnostics, "slot {}: ", refused.slot)?;
+    write_what_stands(diagnostics, text, refused)?;
     let advice = advice_on_text(refused, text);
-    write_advice(words, Fault::Program(refused), advice)
+    write_advice(diagnostics, Fault::Program(refused), advice)
 }
 
-fn write_advice<W: Write>(words: &mut W, fault: Fault, advice: Option<Advice>) -> io::Result<()> {
+fn write_advice<W: Write>(
+    diagnostics: &mut W,
+    fault: Fault,
+    advice: Option<Advice>,
+) -> io::Result<()> {
     match advice {
-        Some(advice) => write!(words, "{}; {}", advice.wrong, advice.mend),
-        None => write!(words, "{}", fault.name()),
+        Some(advice) => write!(diagnostics, "{}; {}", advice.wrong, advice.mend),
+        None => write!(diagnostics, "{}", fault.name()),
     }
 }
 
 /// Writes what stands at a refused slot: its instruction, or its bytes where they make none.
-fn write_what_stands<W: Write>(words: &mut W, text: &[u8], refused: Refused) -> io::Result<()> {
+fn write_what_stands<W: Write>(
+    diagnostics: &mut W,
+    text: &[u8],
+    refused: Refused,
+) -> io::Result<()> {
     let slot = refused.slot as usize;
     let Some(insn) = Insn::at(text, slot) else {
         return Ok(());
@@ -170,22 +182,22 @@ fn write_what_stands<W: Write>(words: &mut W, text: &[u8], refused: Refused) -> 
     match refused.number {
         // It is said at slot 0, and speaks of no instruction.
         BAD_LENGTH => Ok(()),
-        // The rules behind it speak of well-formed texts.
-        number if number <= CUT_WIDE => write_bytes(words, text, slot),
+        // The rules after it speak of well-formed texts.
+        number if number <= CUT_WIDE => write_bytes(diagnostics, text, slot),
         _ => {
             let insn = Assembly(insn);
-            write!(words, "{insn}: ")
+            write!(diagnostics, "{insn}: ")
         }
     }
 }
 
 /// Writes the eight bytes of a slot.
-fn write_bytes<W: Write>(words: &mut W, text: &[u8], slot: usize) -> io::Result<()>
+fn write_bytes<W: Write>(diagnostics: &mut W, text: &[u8], slot: usize) -> io::Result<()>
     requires whole { length text.now % 8 ≡ 0 }
     requires within { slot < slots_of text.now }
 {
     for byte in &text[8 * slot..8 * slot + 8] {
-        write!(words, "{byte:02x}")?;
+        write!(diagnostics, "{byte:02x}")?;
     }
-    write!(words, ": ")
+    write!(diagnostics, ": ")
 }

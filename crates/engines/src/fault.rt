@@ -19,21 +19,25 @@ pub fn status_of(outcome: &Result<u8, FileFault>) -> u8
 }
 
 /// Writes the words of a fault as whole lines, in which no character steers a terminal.
-pub fn write_fault<W: Write>(alloc: Global, words: &mut W, fault: &FileFault) -> io::Result<()> {
+pub fn write_fault<W: Write>(
+    alloc: Global,
+    diagnostics: &mut W,
+    fault: &FileFault,
+) -> io::Result<()> {
     match fault.to_string(alloc) {
-        Ok(said) => write_plain(words, said.as_str().trim_end())?,
-        Err(AllocError) => write!(words, "out of memory")?,
+        Ok(said) => write_plain(diagnostics, said.as_str().trim_end())?,
+        Err(AllocError) => write!(diagnostics, "out of memory")?,
     }
-    writeln!(words)
+    writeln!(diagnostics)
 }
 
 /// Writes a text in which a character that steers a terminal is written by its number.
-fn write_plain<W: Write>(words: &mut W, text: &str) -> io::Result<()> {
+fn write_plain<W: Write>(diagnostics: &mut W, text: &str) -> io::Result<()> {
     for c in text.chars() {
         if is_plain(c) || c == '\n' {
-            write!(words, "{c}")?;
+            write!(diagnostics, "{c}")?;
         } else {
-            write!(words, "{}", c.escape_unicode())?;
+            write!(diagnostics, "{}", c.escape_unicode())?;
         }
     }
     Ok(())
@@ -53,7 +57,7 @@ pub fn usage(said: Result<String, AllocError>) -> FileFault
 pub fn written(outcome: io::Result<()>) -> Result<(), FileFault>
     ensures ok { OnOk result (IsOk outcome) }
     ensures bad { IfErr result (λ fault. ¬ IsBad fault) }
-    ensures words { IfErr result (λ fault. ¬ IsOfWords fault) }
+    ensures diagnostics { IfErr result (λ fault. ¬ IsOfWords fault) }
 {
     match outcome {
         Ok(()) => Ok(()),

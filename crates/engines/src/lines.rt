@@ -5,7 +5,7 @@ ghost use Rattle.std.specs.Io.KnownBytes.{Appends};
 ghost use Rattle.host_types.specs.Refusals.{refusal_text};
 ghost use Rattle.hex.specs.Hex.{encode_lower};
 ghost use Rattle.host_file.specs.Faults.{IsBad, IsOfWords};
-ghost use Rattle.engines.specs.Lines.{line_of, place_text, reply_lines, tenant_front, value_line};
+ghost use Rattle.engines.specs.Lines.{line_of, location_text, reply_lines, tenant_front, value_line};
 
 use crate::fault::written;
 use hex::encode_to_slice;
@@ -31,7 +31,7 @@ impl fmt::Display for Front {
     }
 }
 
-/// Writes the line of a refusal of the host itself, and passes it on: what it means stands behind it.
+/// Writes the line of a refusal of the host itself, and passes it on: what it means stands after it.
 pub(crate) fn write_refusal<W: Write>(writer: &mut W, fault: Fault) -> Result<(), FileFault>
     ensures line { OnOk result (Appends (W.contents writer.old) (W.contents writer.new) (line_of (refusal_text fault))) }
     ensures bad { IfErr result (λ fault. ¬ IsBad fault) }
@@ -42,7 +42,7 @@ pub(crate) fn write_refusal<W: Write>(writer: &mut W, fault: Fault) -> Result<()
 }
 
 /// Writes the lines of a reply to an event, where it has any, and passes on that of a refusal: what it means
-/// stands behind it. `run` is the number of the latest run of the event's tenant.
+/// stands after it. `run` is the number of the latest run of the event's tenant.
 pub fn write_reply<W: Write>(
     writer: &mut W,
     event: &Event,
@@ -69,7 +69,7 @@ pub fn write_reply<W: Write>(
     }
 }
 
-/// Writes the line of a refusal, and passes it on: what it means stands behind it.
+/// Writes the line of a refusal, and passes it on: what it means stands after it.
 fn write_refused<W: Write>(
     writer: &mut W,
     tenant: Option<u32>,
@@ -91,14 +91,19 @@ fn write_value<W: Write>(writer: &mut W, event: &Event, value: &[u8]) -> Result<
     let Event::HostLookup { tenant, map, key } = event else {
         return Ok(());
     };
-    write_place(writer, *tenant, *map, *key)?;
+    write_location(writer, *tenant, *map, *key)?;
     write_hex(writer, value)?;
     end_line(writer)
 }
 
 /// Writes where a value stands.
-fn write_place<W: Write>(writer: &mut W, tenant: u32, map: MapNo, key: u32) -> Result<(), FileFault>
-    ensures place { OnOk result (Appends (W.contents writer.old) (W.contents writer.new) (place_text tenant map key)) }
+fn write_location<W: Write>(
+    writer: &mut W,
+    tenant: u32,
+    map: MapNo,
+    key: u32,
+) -> Result<(), FileFault>
+    ensures location { OnOk result (Appends (W.contents writer.old) (W.contents writer.new) (location_text tenant map key)) }
     ensures bad { IfErr result (λ fault. ¬ IsBad fault) }
 {
     written(write!(writer, "tenant {tenant} map {map} key {key} "))

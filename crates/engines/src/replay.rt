@@ -18,7 +18,7 @@ use crate::lines::write_refusal;
 use crate::session::Session;
 use crate::watch::Watch;
 use host_core::Host;
-use host_file::{BadFile, Cause, FileFault, HostFile, MAX_BYTES, Place, read_file};
+use host_file::{BadFile, Cause, FileFault, HostFile, Location, MAX_BYTES, read_file};
 use host_types::Fault;
 use std::alloc::{AllocError, Global};
 use std::io;
@@ -33,18 +33,18 @@ pub fn replay<R: Read, W: Write, E: Write, V: Watch>(
     alloc: Global,
     reader: &mut R,
     writer: &mut W,
-    words: &mut E,
+    diagnostics: &mut E,
     watch: &mut V,
 ) -> Result<u8, FileFault>
     ensures status { IfOk result (λ status. status ≤ 1) }
     ensures replayed { IfOk result (λ status. IfSome (R.remaining reader.old) (λ bytes.
         (length bytes ≤ max_bytes) × ((file : HostFile) × IsFileText bytes file
         × IsReplayed file (W.contents writer.old) (W.contents writer.new) status))) }
-    ensures bad { IfErr result (λ fault. IsBad fault → (writer.new ≡ writer.old) × (words.new ≡ words.old)) }
+    ensures bad { IfErr result (λ fault. IsBad fault → (writer.new ≡ writer.old) × (diagnostics.new ≡ diagnostics.old)) }
     ensures no_file { IfErr result (λ fault. IsBad fault → IfSome (R.remaining reader.old) AreNoFile) }
 {
     let file = file_from(alloc, reader)?;
-    let status = replay_file(alloc, &file, writer, words, watch);
+    let status = replay_file(alloc, &file, writer, diagnostics, watch);
     let flushed = writer.flush();
     let status = status?;
     written(flushed)?;
@@ -69,7 +69,7 @@ fn bytes_from<R: Read>(alloc: Global, reader: &mut R) -> Result<Vec<u8>, FileFau
     ensures bad { IfErr result (λ fault. IsBad fault → IfSome (R.remaining reader.old) (λ bytes. max_bytes < length bytes)) }
 {
     let mut bytes = Vec::new(alloc);
-    // One byte more tells that there are more.
+    // One byte more says that there are more.
     let mut front = reader.take(MAX_BYTES as u64 + 1);
     if let Err(error) = front.read_to_end(&mut bytes) {
         return Err(read_fault(error));
@@ -82,7 +82,7 @@ fn bytes_from<R: Read>(alloc: Global, reader: &mut R) -> Result<Vec<u8>, FileFau
 
 fn bad_document(cause: Cause) -> FileFault {
     FileFault::Bad(BadFile {
-        place: Place::Document,
+        location: Location::Document,
         cause,
     })
 }
@@ -102,16 +102,16 @@ fn replay_file<W: Write, E: Write, V: Watch>(
     alloc: Global,
     file: &HostFile,
     writer: &mut W,
-    words: &mut E,
+    diagnostics: &mut E,
     watch: &mut V,
 ) -> Result<u8, FileFault>
     ensures replayed { IfOk result (IsReplayed file.now (W.contents writer.old) (W.contents writer.new)) }
     ensures fault { IfErr result (λ fault. ¬ IsBad fault) }
 {
     match Host::new(alloc, file.frames, file.tenants, file.options) {
-        Ok(host) => replay_commands(alloc, host, file, writer, words, watch),
+        Ok(host) => replay_commands(alloc, host, file, writer, diagnostics, watch),
         Err(fault) => {
-            refuse(file, fault, writer, words)?;
+            refuse(file, fault, writer, diagnostics)?;
             Ok(1)
         }
     }
@@ -122,14 +122,14 @@ pub fn refuse<W: Write, E: Write>(
     file: &HostFile,
     fault: Fault,
     writer: &mut W,
-    words: &mut E,
+    diagnostics: &mut E,
 ) -> Result<(), FileFault>
     ensures line { OnOk result (Appends (W.contents writer.old) (W.contents writer.new) (line_of (refusal_text fault))) }
     ensures bad { IfErr result (λ fault. ¬ IsBad fault) }
 {
     write_refusal(writer, fault)?;
     // The line is written: what it means may be lost.
-    let _ = explain_host(words, file, fault);
+    let _ = explain_host(diagnostics, file, fault);
     Ok(())
 }
 
@@ -139,7 +139,7 @@ fn replay_commands<W: Write, E: Write, V: Watch>(
     host: Host,
     file: &HostFile,
     writer: &mut W,
-    words: &mut E,
+    diagnostics: &mut E,
     watch: &mut V,
 ) -> Result<u8, FileFault>
     requires { StandsForSystem host (new_system file.now.frames file.now.tenants file.now.options) }
@@ -147,6 +147,6 @@ fn replay_commands<W: Write, E: Write, V: Watch>(
     ensures fault { IfErr result (λ fault. ¬ IsBad fault) }
 {
     let mut session = Session::new(alloc, host, file)?;
-    session.perform_all(file.commands.as_slice(), writer, words, watch)?;
+    session.perform_all(file.commands.as_slice(), writer, diagnostics, watch)?;
     Ok(u8::from(session.has_refused()))
 }

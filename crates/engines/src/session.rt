@@ -1,12 +1,12 @@
 //! A host at work on the commands of a host file, and what is written of it.
 
 ghost use Rattle.std.specs.Prelude.{◌≡◌, ◌↔◌, false, replicate, IfErr, IfOk, IsTrue, OnOk};
-ghost use Rattle.host_core.specs.declared.event.Reply.TheVariants.{Begun, Done};
-ghost use Rattle.host_core.specs.HostView.{tenant_of};
+ghost use Rattle.host_core.specs.declared.reply.Reply.TheVariants.{Begun, Done};
+ghost use Rattle.host_types.specs.Events.{tenant_of};
 ghost use Rattle.host_file.specs.Faults.{IsBad};
 ghost use Rattle.host_file.specs.declared.command.Command.TheVariants.{Run};
 ghost use Rattle.engines.specs.Replay.{AreOf, AreOfAll, AreStepsToEnd, AreVisits, latest_run, one_more_run, pages_after, runs_begun};
-ghost use Rattle.engines.specs.Sessions.{AreStepsMade, HasTold, IsOneEvent, Performs};
+ghost use Rattle.engines.specs.Sessions.{AreStepsMade, HasPrinted, IsOneEvent, Performs};
 
 use crate::explanation::explain_event;
 use crate::fault::written;
@@ -64,14 +64,14 @@ impl Session {
         &mut self,
         commands: &[Command],
         writer: &mut W,
-        words: &mut E,
+        diagnostics: &mut E,
         watch: &mut V,
     ) -> Result<(), FileFault>
         ensures performs { OnOk result (Performs (AreOfAll self.old.pages_to_scan commands.now) self.old self.new (W.contents writer.old) (W.contents writer.new)) }
         ensures bad { IfErr result (λ fault. ¬ IsBad fault) }
     {
         for (number, command) in commands.iter().enumerate() {
-            self.perform(number, command, writer, words, watch)?;
+            self.perform(number, command, writer, diagnostics, watch)?;
         }
         Ok(())
     }
@@ -82,7 +82,7 @@ impl Session {
         number: usize,
         command: &Command,
         writer: &mut W,
-        words: &mut E,
+        diagnostics: &mut E,
         watch: &mut V,
     ) -> Result<(), FileFault>
         ensures performs { OnOk result (Performs (AreOf self.old.pages_to_scan command.now) self.old self.new (W.contents writer.old) (W.contents writer.new)) }
@@ -90,17 +90,17 @@ impl Session {
     {
         match command {
             Command::Apply(event) => {
-                self.apply(number, event, writer, words)?;
+                self.apply(number, event, writer, diagnostics)?;
                 Ok(())
             }
             Command::Step { tenant, count } => {
-                self.make_steps(number, *tenant, u64::from(*count), writer, words)
+                self.make_steps(number, *tenant, u64::from(*count), writer, diagnostics)
             }
-            Command::Finish { tenant } => self.finish(number, *tenant, writer, words),
-            Command::Run(event) => self.run(number, event, writer, words),
+            Command::Finish { tenant } => self.finish(number, *tenant, writer, diagnostics),
+            Command::Run(event) => self.run(number, event, writer, diagnostics),
             Command::Visit { count } => {
                 let count = count.unwrap_or(self.pages_to_scan);
-                self.visit(number, count, writer, words, watch)
+                self.visit(number, count, writer, diagnostics, watch)
             }
         }
     }
@@ -111,7 +111,7 @@ impl Session {
         number: usize,
         count: u32,
         writer: &mut W,
-        words: &mut E,
+        diagnostics: &mut E,
         watch: &mut V,
     ) -> Result<(), FileFault>
         ensures performs { OnOk result (Performs (AreVisits count) self.old self.new (W.contents writer.old) (W.contents writer.new)) }
@@ -120,7 +120,7 @@ impl Session {
         written(writer.flush())?;
         for _visit in 0..count {
             watch.see(number, _visit, count);
-            self.apply(number, &Event::Visit, writer, words)?;
+            self.apply(number, &Event::Visit, writer, diagnostics)?;
         }
         watch.pass();
         Ok(())
@@ -132,19 +132,19 @@ impl Session {
         number: usize,
         event: &Event,
         writer: &mut W,
-        words: &mut E,
+        diagnostics: &mut E,
     ) -> Result<(), FileFault>
         ensures performs { OnOk result (Performs (AreOf self.old.pages_to_scan (Run event.now)) self.old self.new (W.contents writer.old) (W.contents writer.new)) }
         ensures bad { IfErr result (λ fault. ¬ IsBad fault) }
     {
-        let reply = self.apply(number, event, writer, words)?;
+        let reply = self.apply(number, event, writer, diagnostics)?;
         let Some(tenant) = event.tenant() else {
             return Ok(());
         };
         if !is_begun(&reply) {
             return Ok(());
         }
-        self.finish(number, tenant, writer, words)
+        self.finish(number, tenant, writer, diagnostics)
     }
 
     /// Applies an event, and writes its lines if it has any.
@@ -153,14 +153,14 @@ impl Session {
         number: usize,
         event: &Event,
         writer: &mut W,
-        words: &mut E,
+        diagnostics: &mut E,
     ) -> Result<Reply, FileFault>
         ensures performs { IfOk result (λ reply. Performs (IsOneEvent event.now reply) self.old self.new (W.contents writer.old) (W.contents writer.new)) }
         ensures bad { IfErr result (λ fault. ¬ IsBad fault) }
     {
         let reply = self.host.apply(event);
-        self.tell(event, &reply, writer)?;
-        self.explain(words, number, event, &reply);
+        self.print(event, &reply, writer)?;
+        self.explain(diagnostics, number, event, &reply);
         Ok(reply)
     }
 
@@ -170,12 +170,12 @@ impl Session {
         number: usize,
         tenant: u32,
         writer: &mut W,
-        words: &mut E,
+        diagnostics: &mut E,
     ) -> Result<(), FileFault>
         ensures performs { OnOk result (Performs (AreStepsToEnd tenant) self.old self.new (W.contents writer.old) (W.contents writer.new)) }
         ensures bad { IfErr result (λ fault. ¬ IsBad fault) }
     {
-        self.make_steps(number, tenant, u64::MAX, writer, words)
+        self.make_steps(number, tenant, u64::MAX, writer, diagnostics)
     }
 
     /// Makes up to a number of steps of the open run, and none after its end or a refusal.
@@ -185,7 +185,7 @@ impl Session {
         tenant: u32,
         limit: u64,
         writer: &mut W,
-        words: &mut E,
+        diagnostics: &mut E,
     ) -> Result<(), FileFault>
         ensures performs { OnOk result (Performs (AreStepsMade tenant limit) self.old self.new (W.contents writer.old) (W.contents writer.new)) }
         ensures bad { IfErr result (λ fault. ¬ IsBad fault) }
@@ -194,19 +194,19 @@ impl Session {
             return Ok(());
         };
         let event = Event::Step { tenant };
-        self.tell(&event, &reply, writer)?;
-        self.explain(words, number, &event, &reply);
+        self.print(&event, &reply, writer)?;
+        self.explain(diagnostics, number, &event, &reply);
         Ok(())
     }
 
     /// Writes the lines of a reply if it has any, and notes what later events and lines need to know.
-    fn tell<W: Write>(
+    fn print<W: Write>(
         &mut self,
         event: &Event,
         reply: &Reply,
         writer: &mut W,
     ) -> Result<(), FileFault>
-        ensures told { OnOk result (HasTold event.now reply.now self.old self.new (W.contents writer.old) (W.contents writer.new)) }
+        ensures printed { OnOk result (HasPrinted event.now reply.now self.old self.new (W.contents writer.old) (W.contents writer.new)) }
         ensures bad { IfErr result (λ fault. ¬ IsBad fault) }
     {
         write_reply(writer, event, self.latest_run(event), reply)?;
@@ -273,10 +273,10 @@ impl Session {
 
 impl Session {
     /// Writes, of a refusal, which event of the file was refused, and what that means.
-    fn explain<E: Write>(&self, words: &mut E, number: usize, event: &Event, reply: &Reply) {
+    fn explain<E: Write>(&self, diagnostics: &mut E, number: usize, event: &Event, reply: &Reply) {
         if let Reply::Refused(fault) = reply {
             let shapes = self.shapes_for(event);
-            explain_at(self.alloc, words, number, event, *fault, &shapes);
+            explain_at(self.alloc, diagnostics, number, event, *fault, &shapes);
         }
     }
 
@@ -303,12 +303,12 @@ fn is_begun(reply: &Reply) -> bool
 /// its tenant have these shapes by number. The line of the refusal is written: the words may be lost.
 pub fn explain_at<W: Write>(
     alloc: Global,
-    words: &mut W,
+    diagnostics: &mut W,
     number: usize,
     event: &Event,
     fault: Fault,
     shapes: &[Option<Shape>],
 ) {
-    let _ = write!(words, "event {number}: ");
-    let _ = explain_event(alloc, words, event, fault, shapes);
+    let _ = write!(diagnostics, "event {number}: ");
+    let _ = explain_event(alloc, diagnostics, event, fault, shapes);
 }

@@ -1,6 +1,6 @@
-/// Is told how far a long event is, for people who wait. What it does with that changes no answer.
+/// Is reported how far a long event is, for people who wait. What it does with that changes no answer.
 pub trait Watch {
-    /// So many of an event's visits were made, of how many. The event is told by its number in the file.
+    /// So many of an event's visits were made, of how many. The event is reported by its number in the file.
     fn see(&mut self, event: usize, made: u32, count: u32);
 
     /// The event's visits are all made.

@@ -3,7 +3,7 @@
 use lowered_text::{Copies, Loop, loops_of};
 use std::alloc::{AllocError, Global};
 
-/// Which slots of a lowered text are left out: of the copies of a loop that stand one behind the other all but the first,
+/// Which slots of a lowered text are left out: of the copies of a loop that stand one after the other all but the first,
 /// the second and the last.
 pub fn folded(alloc: Global, copies: &Copies<'_>) -> Result<Vec<bool>, AllocError> {
     let mut folded = Vec::new(alloc);
@@ -16,7 +16,7 @@ pub fn folded(alloc: Global, copies: &Copies<'_>) -> Result<Vec<bool>, AllocErro
     Ok(folded)
 }
 
-/// Leaves out copies of one loop. Copies stand one behind the other where no slot between them stands for one outside of
+/// Leaves out copies of one loop. Copies stand one after the other where no slot between them stands for one outside of
 /// the loop.
 fn fold_loop(
     alloc: Global,

@@ -5,9 +5,9 @@
 mod folds;
 
 use command_line::{ToExplain, explained_of};
-use engines::check::{Question, check, question_of};
+use engines::check::{CheckRequest, check, check_request_of};
 use engines::{status_of, write_fault, written};
-use findings::Judged;
+use findings::Verdict;
 use folds::folded;
 use hex::encode;
 use host_file::FileFault;
@@ -31,7 +31,7 @@ fn main(rt: HostRuntime) -> ExitCode {
     };
     let outcome = run(&rt, paint);
     if let Err(fault) = &outcome {
-        // The status tells it too: the words may be lost.
+        // The status says it too: the words may be lost.
         let _ = write_fault(rt.alloc(), &mut errors, fault);
     }
     ExitCode::from(status_of(&outcome))
@@ -113,23 +113,23 @@ fn explain<W: Write>(
     paint: Paint,
     output: &mut W,
 ) -> Result<u8, FileFault> {
-    let question = question_of(alloc, hex, asked.shapes.as_slice(), asked.context)?;
+    let request = check_request_of(alloc, hex, asked.shapes.as_slice(), asked.context)?;
     let outcome = if asked.lower {
-        lowered(alloc, &question)
+        lowered(alloc, &request)
     } else {
         None
     };
     match outcome {
-        Some(Ok(lowered)) => explain_lowered(alloc, asked, &question, &lowered, paint, output),
+        Some(Ok(lowered)) => explain_lowered(alloc, asked, &request, &lowered, paint, output),
         Some(Err(stopped)) => {
-            let status = explain_text(alloc, asked, hex, &question, paint, output)?;
+            let status = explain_text(alloc, asked, hex, &request, paint, output)?;
             let mut words = Vec::new(alloc);
-            written(write_stop(question.text.as_slice(), &stopped, &mut words))?;
+            written(write_stop(request.text.as_slice(), &stopped, &mut words))?;
             written(write_words(output, words.as_slice()))?;
             written(output.flush())?;
             Ok(status)
         }
-        None => explain_text(alloc, asked, hex, &question, paint, output),
+        None => explain_text(alloc, asked, hex, &request, paint, output),
     }
 }
 
@@ -139,7 +139,7 @@ fn explain_text<W: Write>(
     alloc: Global,
     asked: &ToExplain<'_>,
     hex: &str,
-    question: &Question,
+    request: &CheckRequest,
     paint: Paint,
     output: &mut W,
 ) -> Result<u8, FileFault> {
@@ -152,12 +152,12 @@ fn explain_text<W: Write>(
         output,
         &mut meant,
     )?;
-    let judged = Judged {
-        text: question.text.as_slice(),
-        shapes: question.shapes.as_slice(),
-        context_size: question.context_size,
+    let verdict = Verdict {
+        text: request.text.as_slice(),
+        shapes: request.shapes.as_slice(),
+        context_size: request.context_size,
     };
-    let listing = Listing::of(alloc, &judged, detail_of(asked), paint, None);
+    let listing = Listing::of(alloc, &verdict, detail_of(asked), paint, None);
     written(write_explained(output, listing.as_ref(), meant.as_slice()))?;
     Ok(status)
 }
@@ -167,7 +167,7 @@ fn explain_text<W: Write>(
 fn explain_lowered<W: Write>(
     alloc: Global,
     asked: &ToExplain<'_>,
-    question: &Question,
+    request: &CheckRequest,
     lowered: &Lowered,
     paint: Paint,
     output: &mut W,
@@ -184,7 +184,7 @@ fn explain_lowered<W: Write>(
         &mut meant,
     )?;
     let copies = Copies {
-        text: question.text.as_slice(),
+        text: request.text.as_slice(),
         lowered,
     };
     let folded = folded(alloc, &copies)?;
@@ -192,12 +192,12 @@ fn explain_lowered<W: Write>(
         origins: lowered.origins.as_slice(),
         folded: folded.as_slice(),
     };
-    let judged = Judged {
+    let verdict = Verdict {
         text: lowered.text.as_slice(),
-        shapes: question.shapes.as_slice(),
-        context_size: question.context_size,
+        shapes: request.shapes.as_slice(),
+        context_size: request.context_size,
     };
-    let listing = Listing::of(alloc, &judged, detail_of(asked), paint, Some(beside));
+    let listing = Listing::of(alloc, &verdict, detail_of(asked), paint, Some(beside));
     written(write_explained(output, listing.as_ref(), meant.as_slice()))?;
     Ok(status)
 }
@@ -207,7 +207,7 @@ fn detail_of(asked: &ToExplain<'_>) -> Detail {
     if asked.all { Detail::All } else { Detail::Read }
 }
 
-/// Writes a listing, with what a refusal means behind the slot that is refused.
+/// Writes a listing, with what a refusal means after the slot that is refused.
 fn write_explained<W: Write>(
     output: &mut W,
     listing: Option<&Listing<'_>>,

@@ -1,20 +1,20 @@
-use crate::place::Place;
+use crate::site::Site;
 use bpf_decode::{Insn, Operation};
 
 /// Bytes of memory that an instruction reads or writes by way of a register.
 #[derive(Clone, Copy, Debug)]
 pub struct Access {
     pub bytes: u32,
-    /// How far behind the register's address they begin.
+    /// How far after the register's address they begin.
     pub offset: i16,
-    /// What divides the place at which they begin.
+    /// What divides the address at which they begin.
     pub align: u32,
 }
 
 impl Access {
     /// What the refused instruction reads or writes by way of a register.
-    pub fn by(place: &Place<'_>, register: u8) -> Option<Access> {
-        Access::of(&place.insn, register, place.named_value_size())
+    pub fn by(site: &Site<'_>, register: u8) -> Option<Access> {
+        Access::of(&site.insn, register, site.named_value_size())
     }
 
     /// What an instruction reads or writes by way of a register, where the values of the map that R1 names have

@@ -1,7 +1,7 @@
 ghost use Rattle.std.specs.Prelude.{◌↔◌, IfSome, IsTrue};
 ghost use Rattle.host_types.specs.Shapes.{IsShape};
 
-use crate::Judged;
+use crate::Verdict;
 use bpf_decode::decode;
 use host_types::limits::MAX_MAPS;
 use host_types::{Refused, Shape};
@@ -17,7 +17,7 @@ const EXIT: [u8; 8] = [0x95, 0, 0, 0, 0, 0, 0, 0];
 #[derive(Clone, Copy, Debug)]
 pub struct Cut<'a> {
     pub alloc: Global,
-    pub judged: Judged<'a>,
+    pub verdict: Verdict<'a>,
     pub slot: usize,
 }
 
@@ -35,21 +35,21 @@ impl<'a> Cut<'a> {
     /// The text with another instruction at the slot, where that is accepted. What was known at the slot is known
     /// of it too.
     pub fn with(&self, there: [u8; 8]) -> Option<Verified> {
-        self.judge(there)?.ok()
+        self.decode_and_verify(there)?.ok()
     }
 
     /// Whether the text with another instruction at the slot breaks this rule.
     pub fn is_refused(&self, there: [u8; 8], rule: u32) -> bool {
-        match self.judge(there) {
+        match self.decode_and_verify(there) {
             Some(Err(refused)) => refused.number == rule,
             Some(Ok(_)) | None => false,
         }
     }
 
     /// What the verifier says of the text with another instruction at the slot, where there is memory for it.
-    fn judge(&self, there: [u8; 8]) -> Option<Result<Verified, Refused>> {
-        let shapes = self.judged.shapes;
-        let context_size = self.judged.context_size;
+    fn decode_and_verify(&self, there: [u8; 8]) -> Option<Result<Verified, Refused>> {
+        let shapes = self.verdict.shapes;
+        let context_size = self.verdict.context_size;
         if shapes.len() > MAX_MAPS
             || !shapes.iter().all(|shape| is_within_limits(shape))
             || !is_context_size(context_size)
@@ -61,14 +61,14 @@ impl<'a> Cut<'a> {
         Some(verify(self.alloc, program, shapes, context_size))
     }
 
-    /// The slots before the refused one, this instruction, and behind it as many as there were that break no rule,
+    /// The slots before the refused one, this instruction, and after it as many as there were that break no rule,
     /// so that each jump finds its target.
     fn text(&self, there: [u8; 8]) -> Result<Vec<u8>, AllocError> {
-        let whole = self.judged.text;
+        let whole = self.verdict.text;
         let mut text = Vec::new(self.alloc);
         text.extend_from_slice(whole.get(..self.slot.saturating_mul(8)).unwrap_or(whole))?;
         text.extend_from_slice(&there)?;
-        for _behind in (self.slot..whole.len() / 8).skip(1) {
+        for _following in (self.slot..whole.len() / 8).skip(1) {
             text.extend_from_slice(&CLEAR)?;
         }
         text.extend_from_slice(&EXIT)?;

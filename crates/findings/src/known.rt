@@ -59,7 +59,7 @@ impl fmt::Display for Numbers {
     }
 }
 
-/// Which numbers alone are meant, behind a word for that; nothing where all are.
+/// Which numbers alone are meant, after a word for that; nothing where all are.
 #[derive(Clone, Copy, Debug)]
 pub struct Multiple(pub &'static str, pub Align);
 

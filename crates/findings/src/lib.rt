@@ -7,7 +7,7 @@ mod cut;
 mod known;
 mod limit;
 mod operands;
-mod place;
+mod site;
 mod unset;
 
 pub use access::Access;
@@ -20,68 +20,68 @@ pub use known::{Moved, Multiple};
 use limit::Limit;
 pub use limit::{greatest, least};
 pub use operands::registers_read;
-pub use place::Kinds;
-use place::Place;
+pub use site::Kinds;
+use site::Site;
 use std::alloc::Global;
 use std::io;
 use std::io::Write;
 use unset::write_unset_bytes;
 
-/// What a text was judged for: maps of these shapes, by number, each there or not, and a context of so many bytes.
+/// What a text was verified for: maps of these shapes, by number, each there or not, and a context of so many bytes.
 #[derive(Clone, Copy, Debug)]
-pub struct Judged<'a> {
+pub struct Verdict<'a> {
     pub text: &'a [u8],
     pub shapes: &'a [Option<Shape>],
     pub context_size: u32,
 }
 
-/// Writes what was known at the slot of a refusal, each finding behind a `; `. Of a refusal that goes by no
+/// Writes what was known at the slot of a refusal, each finding after a `; `. Of a refusal that goes by no
 /// register, and where there is no memory, nothing is written.
 pub fn write_findings<W: Write>(
     alloc: Global,
     words: &mut W,
-    judged: &Judged<'_>,
+    verdict: &Verdict<'_>,
     refused: Refused,
 ) -> io::Result<()> {
     let slot = refused.slot as usize;
     let cut = Cut {
         alloc,
-        judged: *judged,
+        verdict: *verdict,
         slot,
     };
-    let (Some(insn), true) = (Insn::at(judged.text, slot), is_of_values(refused)) else {
+    let (Some(insn), true) = (Insn::at(verdict.text, slot), is_of_values(refused)) else {
         return Ok(());
     };
     let Some(verified) = cut.with(CLEAR) else {
         return Ok(());
     };
-    let place = Place {
-        judged: *judged,
+    let site = Site {
+        verdict: *verdict,
         refused,
         insn,
         kinds: Kinds::at(&verified, refused.slot),
     };
-    write_registers(words, &place)?;
-    write_unset_bytes(words, &cut, &place)
+    write_registers(words, &site)?;
+    write_unset_bytes(words, &cut, &site)
 }
 
-/// Writes what is known of the registers that an instruction reads, and what may stand there, each behind a `; `,
+/// Writes what is known of the registers that an instruction reads, and what may stand there, each after a `; `,
 /// where the instruction breaks this rule. Of a rule that goes by no register nothing is written.
 pub fn write_limits<W: Write>(
     words: &mut W,
-    judged: &Judged<'_>,
+    verdict: &Verdict<'_>,
     refused: Refused,
     kinds: &Kinds,
 ) -> io::Result<()> {
-    match Insn::at(judged.text, refused.slot as usize) {
+    match Insn::at(verdict.text, refused.slot as usize) {
         Some(insn) if is_of_values(refused) => {
-            let place = Place {
-                judged: *judged,
+            let site = Site {
+                verdict: *verdict,
                 refused,
                 insn,
                 kinds: *kinds,
             };
-            write_registers(words, &place)
+            write_registers(words, &site)
         }
         _ => Ok(()),
     }
@@ -94,21 +94,21 @@ fn is_of_values(refused: Refused) -> bool {
 }
 
 /// Writes what is known of the registers that are read.
-fn write_registers<W: Write>(words: &mut W, place: &Place<'_>) -> io::Result<()> {
-    for register in registers_read(&place.insn) {
+fn write_registers<W: Write>(words: &mut W, site: &Site<'_>) -> io::Result<()> {
+    for register in registers_read(&site.insn) {
         // R10 is what it always is, and numbers above are no register's.
         if register < FRAME_POINTER {
-            write_known(words, place, register)?;
+            write_known(words, site, register)?;
         }
     }
     Ok(())
 }
 
 /// Writes what was known of a register, and what may stand there.
-fn write_known<W: Write>(words: &mut W, place: &Place<'_>, register: u8) -> io::Result<()> {
-    let kind = place.kind(register);
+fn write_known<W: Write>(words: &mut W, site: &Site<'_>, register: u8) -> io::Result<()> {
+    let kind = site.kind(register);
     write!(words, "; {}", Known { register, kind })?;
-    match kind.and_then(|kind| Limit::of(place, register, kind)) {
+    match kind.and_then(|kind| Limit::of(site, register, kind)) {
         Some(limit) => write!(words, "{limit}"),
         None => Ok(()),
     }

@@ -4,7 +4,7 @@ use host_types::MapHelper;
 /// No register: there are eleven.
 const NONE: u8 = 11;
 
-/// The registers that an instruction reads, and behind them numbers that are no register's.
+/// The registers that an instruction reads, and after them numbers that are no register's.
 pub fn registers_read(insn: &Insn) -> [u8; 4] {
     let Some(operation) = Operation::of(insn.opcode) else {
         return [NONE; 4];

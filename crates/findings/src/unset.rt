@@ -1,5 +1,5 @@
 use crate::cut::Cut;
-use crate::place::Place;
+use crate::site::Site;
 use bpf_decode::Operation;
 use host_types::MapHelper;
 use host_types::rule::UNSET_STACK;
@@ -11,21 +11,21 @@ use verifier_kinds::Kind;
 pub fn write_unset_bytes<W: Write>(
     words: &mut W,
     cut: &Cut<'_>,
-    place: &Place<'_>,
+    site: &Site<'_>,
 ) -> io::Result<()> {
-    let Some(Operation::Call) = Operation::of(place.insn.opcode) else {
+    let Some(Operation::Call) = Operation::of(site.insn.opcode) else {
         return Ok(());
     };
-    if place.refused.number != UNSET_STACK {
+    if site.refused.number != UNSET_STACK {
         return Ok(());
     }
-    write_unset_of(words, cut, "the key", place.kind(2), 4)?;
+    write_unset_of(words, cut, "the key", site.kind(2), 4)?;
     match (
-        MapHelper::of(place.insn.immediate()),
-        place.named_value_size(),
+        MapHelper::of(site.insn.immediate()),
+        site.named_value_size(),
     ) {
         (Some(MapHelper::Update), Some(size)) => {
-            write_unset_of(words, cut, "the value", place.kind(3), size)
+            write_unset_of(words, cut, "the value", site.kind(3), size)
         }
         _ => Ok(()),
     }
@@ -61,8 +61,8 @@ fn write_unset_of<W: Write>(
 /// Whether a byte of the stack, that many above an address, isn't known to be stored: a program that loads it
 /// breaks that rule. A byte of an address that was stored breaks another one.
 fn is_unset(cut: &Cut<'_>, from: i32, byte: u32) -> bool {
-    let place = i64::from(from) + i64::from(byte);
-    let Ok(offset) = i16::try_from(place) else {
+    let site = i64::from(from) + i64::from(byte);
+    let Ok(offset) = i16::try_from(site) else {
         return false;
     };
     let [low, high] = offset.to_le_bytes();

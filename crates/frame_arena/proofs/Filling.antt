@@ -1,8 +1,8 @@
--- Rows of places that each hold a value, and the row that is being filled from its first place on.
+-- Rows of cells that each hold a value, and the row that is being filled from its first cell on.
 use Rattle.std.proofs.Common.{◌≡◌, ℕ, zero, suc, ◌+◌, ◌-◌, ◌<◌, ◌≤◌, List, [], ◌∷◌, ◌++◌, map, length, take, drop, replicate, slice_set, slice_index_or, Option, Some, None, refl, sym, ap, ◌∙◌, arith}
 use Rattle.std.specs.List.{refill, length_refill}
 use Rattle.std.proofs.lemmas.List.{take_all, take_at, drop_all, length-map, length-replicate, append-nil}
-use Rattle.frame_arena.specs.Places.{somes}
+use Rattle.frame_arena.specs.Offsets.{somes}
 use Rattle.frame_arena.specs.Lends.{spliced}
 
 module _ {X : Type 0} where
@@ -10,7 +10,7 @@ module _ {X : Type 0} where
   somes-map [] = refl
   somes-map (x ∷ xs) = ap (λ l. x ∷ l) (somes-map xs)
 
-  -- places of the same values have the same values
+  -- cells of the same values have the same values
   pub same-values : (xs ys : List X) → map Some xs ≡ map Some ys → xs ≡ ys
   same-values xs ys e = sym (somes-map xs) ∙ ap somes e ∙ somes-map ys
 
@@ -47,11 +47,11 @@ module _ {X : Type 0} where
   pub refill-same : (xs ws : List X) → length ws ≡ length xs → refill (length xs) xs ws ≡ ws
   refill-same xs ws e = take_at ws (drop (length ws) xs) (length xs) e
 
-  -- places of which the first n have a value, and the others up to the m-th none
+  -- cells of which the first n have a value, and the others up to the m-th none
   abbrev pub begun : X → ℕ → ℕ → List (Option X)
   begun x n m = map Some (replicate n x) ++ replicate (m - n) None
 
-  -- n values, and m places that are empty
+  -- n values, and m cells that are empty
   abbrev row : X → ℕ → ℕ → List (Option X)
   row x n m = map Some (replicate n x) ++ replicate m None
 
@@ -70,7 +70,7 @@ module _ {X : Type 0} where
   pub length-begun : (x : X) (n m : ℕ) → n ≤ m → length (begun x n m) ≡ m
   length-begun x n m h = omega (arith, length-row x n (m - n))
 
-  -- the next place is empty
+  -- the next cell is empty
   pub next-empty : (x : X) (n m : ℕ) → n < m → slice_index_or (begun x n m) n None ≡ None
   next-empty x n m h = let more : m - n ≡ suc (m - (n + 1)) = omega arith in rw more (row-empty x n (m - (n + 1)))
 
@@ -81,6 +81,6 @@ module _ {X : Type 0} where
       let next : suc n ≡ n + 1 = omega arith in
       ap (λ (k : ℕ). slice_set (row x n k) n (Some x)) more ∙ row-filled x n (m - (n + 1)) ∙ ap (λ (k : ℕ). row x k (m - (n + 1))) next
 
-  -- all places have got it
+  -- all cells have got it
   pub all-filled : (x : X) (n : ℕ) → begun x n n ≡ map Some (replicate n x)
   all-filled x n = let none : n - n ≡ 0 = omega arith in rw (none, append-nil) refl

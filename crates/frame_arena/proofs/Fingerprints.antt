@@ -61,7 +61,7 @@ digit a b c d e g h i = ((a * 31 + b) * 961 + (c * 31 + d)) * 923521 + ((e * 31 
 four : (f a b c d : ℕ) → folded (folded (folded (folded f a) b) c) d ≡ (923521 * f + ((a * 31 + b) * 961 + (c * 31 + d))) % 2 ^ 64
 four f a b c d = omega arith
 
--- a digit behind another, to base 31^4
+-- a digit after another, to base 31^4
 twice : (f s t : ℕ) → (923521 * ((923521 * f + s) % 2 ^ 64) + t) % 2 ^ 64 ≡ (852891037441 * f + (s * 923521 + t)) % 2 ^ 64
 twice f s t = omega arith
 
@@ -74,9 +74,9 @@ eight f a b c d e g h i =
     ∙ ap (λ (x : ℕ). (923521 * x + t) % 2 ^ 64) (four f a b c d)
     ∙ twice f s t
 
--- a digit behind another, to base 31^8, as the code adds them
-behind : (f s t : ℕ) → (852891037441 * ((852891037441 * f + s) % 2 ^ 64) + t) % 2 ^ 64 ≡ (f * 12662688596514954753 % 2 ^ 64 + (s * 852891037441 % 2 ^ 64 + t) % 2 ^ 64) % 2 ^ 64
-behind f s t = omega arith
+-- a digit after another, to base 31^8, as the code adds them
+following : (f s t : ℕ) → (852891037441 * ((852891037441 * f + s) % 2 ^ 64) + t) % 2 ^ 64 ≡ (f * 12662688596514954753 % 2 ^ 64 + (s * 852891037441 % 2 ^ 64 + t) % 2 ^ 64) % 2 ^ 64
+following f s t = omega arith
 
 -- the digits to base 31^8 of bytes
 abbrev eights : List ℕ → List ℕ
@@ -99,4 +99,4 @@ fold-sixteen f xs long =
     let t : ℕ = slice_index_or (eights ys) 0 0 in
     sym (last-eight (fold folded f (a ∷ b ∷ c ∷ d ∷ e ∷ g ∷ h ∷ i ∷ [])) ys more
     ∙ ap (λ (x : ℕ). (852891037441 * x + t) % 2 ^ 64) (eight f a b c d e g h i)
-    ∙ behind f (digit a b c d e g h i) t)) xs long
+    ∙ following f (digit a b c d e g h i) t)) xs long

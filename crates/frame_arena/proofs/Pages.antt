@@ -15,7 +15,7 @@ pub All-pages_of : (frames : ℕ) (block : List ℕ) → length block ≡ frames
 All-pages_of frames block e small =
     All-parts_of (λ byte. byte < 256) IsPage 4096 frames (λ page sized bytes. record { sized = sized; bytes = bytes }) block e small
 
--- bytes of a page, by their place in the block
+-- bytes of a page, by their cell in the block
 pub part-page : (frames frame at size : ℕ) (block : List ℕ) → frame < frames → at + size ≤ 4096 → part_of block (frame * 4096 + at) size ≡ part_of (page_at (pages_of frames block) frame) at size
 part-page frames frame at size block there within =
     sym (ap (λ page. part_of page at size) (part-parts_of 4096 frames frame block there) ∙ part_of-part_of block (frame * 4096) 4096 at size within)
@@ -37,21 +37,21 @@ below frames frame block pages view there = let e = length-pages_of frames block
 
 -- bytes of a page lie in the block
 pub within-block : (frames frame at size start : ℕ) (block bytes : List ℕ) (pages : List (List ℕ)) → pages_of frames block ≡ pages → length block ≡ frames * 4096 → bytes ≡ block → start ≡ frame * 4096 + at → frame < length pages → at + size ≤ 4096 → start + size ≤ length bytes
-within-block frames frame at size start block bytes pages view whole lent place there fits =
+within-block frames frame at size start block bytes pages view whole lent offset there fits =
     let inside = below frames frame block pages view there in
     let same = ap length lent in
-    omega (arith, inside, same, whole, place, fits)
+    omega (arith, inside, same, whole, offset, fits)
 
 -- bytes of a page are read from the block
 pub read-part : (frames frame at size start : ℕ) (block bytes : List ℕ) (pages : List (List ℕ)) → pages_of frames block ≡ pages → bytes ≡ block → start ≡ frame * 4096 + at → frame < length pages → at + size ≤ 4096 → part_of bytes start size ≡ part_of (page_at pages frame) at size
-read-part frames frame at size start block bytes pages view lent place there fits =
-    rw (← view, lent, place) (part-page frames frame at size block (below frames frame block pages view there) fits)
+read-part frames frame at size start block bytes pages view lent offset there fits =
+    rw (← view, lent, offset) (part-page frames frame at size block (below frames frame block pages view there) fits)
 
 -- a page is read from the block
 pub read-page : (frames frame start : ℕ) (block bytes : List ℕ) (pages : List (List ℕ)) → pages_of frames block ≡ pages → bytes ≡ block → start ≡ frame * 4096 + 0 → frame < length pages → part_of bytes start 4096 ≡ page_at pages frame
-read-page frames frame start block bytes pages view lent place there =
+read-page frames frame start block bytes pages view lent offset there =
     let first : frame * 4096 + 0 ≡ frame * 4096 = omega arith in
-    rw (← view, lent, place, first) (sym (part-parts_of 4096 frames frame block (below frames frame block pages view there)))
+    rw (← view, lent, offset, first) (sym (part-parts_of 4096 frames frame block (below frames frame block pages view there)))
 
 -- a page that is read has its bytes
 pub length-page : (frames frame : ℕ) (block : List ℕ) (pages : List (List ℕ)) → pages_of frames block ≡ pages → length block ≡ frames * 4096 → frame < length pages → length (page_at pages frame) ≡ 4096
@@ -61,13 +61,13 @@ length-page frames frame block pages view whole there =
 
 -- bytes are written into a page
 pub written-part : (frames frame at start : ℕ) (block bytes part : List ℕ) (pages : List (List ℕ)) → pages_of frames block ≡ pages → length block ≡ frames * 4096 → bytes ≡ block → start ≡ frame * 4096 + at → frame < length pages → at + length part ≤ 4096 → pages_of frames (with_part bytes start part) ≡ slice_set pages frame (with_part (page_at pages frame) at part)
-written-part frames frame at start block bytes part pages view whole lent place there fits =
-    rw (← view, lent, place) (pages_of-written frames frame at block part whole (below frames frame block pages view there) fits)
+written-part frames frame at start block bytes part pages view whole lent offset there fits =
+    rw (← view, lent, offset) (pages_of-written frames frame at block part whole (below frames frame block pages view there) fits)
 
 -- a page is written over whole
 pub written-page : (frames frame start : ℕ) (block bytes part : List ℕ) (pages : List (List ℕ)) → pages_of frames block ≡ pages → length block ≡ frames * 4096 → bytes ≡ block → start ≡ frame * 4096 + 0 → frame < length pages → length part ≡ 4096 → pages_of frames (with_part bytes start part) ≡ slice_set pages frame part
-written-page frames frame start block bytes part pages view whole lent place there wide =
-    written-part frames frame 0 start block bytes part pages view whole lent place there (omega (arith, wide))
+written-page frames frame start block bytes part pages view whole lent offset there wide =
+    written-part frames frame 0 start block bytes part pages view whole lent offset there (omega (arith, wide))
     ∙ ap (slice_set pages frame) (with_part-whole (page_at pages frame) part (wide ∙ sym (length-page frames frame block pages view whole there)))
 
 pub length-zero_page : length zero_page ≡ 4096

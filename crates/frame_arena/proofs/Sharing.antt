@@ -1,4 +1,4 @@
--- A `&` to the places is made where one to an item is. Assumes `Logic`.
+-- A `&` to the cells is made where one to an item is. Assumes `Logic`.
 use Prim.Native.Nat.{ℕ, ◌+◌}
 use Rattle.std.specs.Prelude.{List, [], ◌∷◌, Option, Some, None}
 use Rattle.std.specs.Mem.{type_size}

@@ -90,12 +90,12 @@ zeros-mask xs long =
 -- ---- parts of lists
 
 -- two parts side by side are the same as others where each is
-same_parts : (xs ys : List ℕ) (at bt m n after behind : ℕ) → after ≡ at + m → behind ≡ bt + m
-    → (part_of xs at (m + n) ≡ part_of ys bt (m + n)) ↔ ((part_of xs at m ≡ part_of ys bt m) × (part_of xs after n ≡ part_of ys behind n))
+same_parts : (xs ys : List ℕ) (at bt m n after following : ℕ) → after ≡ at + m → following ≡ bt + m
+    → (part_of xs at (m + n) ≡ part_of ys bt (m + n)) ↔ ((part_of xs at m ≡ part_of ys bt m) × (part_of xs after n ≡ part_of ys following n))
 unfolding part_of
-same_parts xs ys at bt m n after behind p q =
+same_parts xs ys at bt m n after following p q =
     let there : drop after xs ≡ drop m (drop at xs) = ap (λ k. drop k xs) p ∙ sym (drop-drop m at xs) in
-    let here : drop behind ys ≡ drop m (drop bt ys) = ap (λ k. drop k ys) q ∙ sym (drop-drop m bt ys) in (
+    let here : drop following ys ≡ drop m (drop bt ys) = ap (λ k. drop k ys) q ∙ sym (drop-drop m bt ys) in (
       λ e. (
         sym (take-take m (m + n) (drop at xs) (omega arith)) ∙ ap (take m) e ∙ take-take m (m + n) (drop bt ys) (omega arith),
         ap (take n) there ∙ sym (drop-take m n (drop at xs)) ∙ ap (drop m) e ∙ drop-take m n (drop bt ys) ∙ sym (ap (take n) here),
@@ -136,13 +136,13 @@ zeros_by_vectors xs at =
       λ e. parts.1 (e.0 ∙ sym a, e.1 ∙ sym b, e.2 ∙ sym c, e.3 ∙ sym d) ∙ whole,
     )
 
--- two lists that are the same up to a place, and in the part there
+-- two lists that are the same up to a cell, and in the part there
 pub same_further : (xs ys : List ℕ) (at n : ℕ) → take at xs ≡ take at ys → part_of xs at n ≡ part_of ys at n → take (at + n) xs ≡ take (at + n) ys
 unfolding part_of
 same_further xs ys at n e f =
     take-add at n xs ∙ ap (λ l. l ++ take n (drop at xs)) e ∙ ap (λ l. take at ys ++ l) f ∙ sym (take-add at n ys)
 
--- zeros up to a place, and in the part there
+-- zeros up to a cell, and in the part there
 pub zeros_further : (xs : List ℕ) (at n : ℕ) → take at xs ≡ replicate at 0 → part_of xs at n ≡ replicate n 0 → take (at + n) xs ≡ replicate (at + n) 0
 zeros_further xs at n e f =
     let zeros : List ℕ = replicate (at + n) 0 in
@@ -159,27 +159,27 @@ part_of-zero_page at h = part_of-zeros 4096 at 256 h
 pub zero_page-from : (xs : List ℕ) (at : ℕ) → length xs ≡ 4096 → at ≡ 4096 → take at xs ≡ replicate at 0 → xs ≡ zero_page
 zero_page-from xs at long end e = sym (take_all at xs (omega (arith, long, end))) ∙ e ∙ replicate-zero_page at end
 
--- lists that are the same up to a place are the same where the rest is
+-- lists that are the same up to a cell are the same where the rest is
 pub same_by_rest : (xs ys : List ℕ) (at : ℕ) → take at xs ≡ take at ys → (take (length xs - at) (drop at xs) ≡ take (length ys - at) (drop at ys)) ↔ (xs ≡ ys)
 same_by_rest xs ys at e = (
   λ f. sym (take-append-drop at xs) ∙ ap (λ l. l ++ drop at xs) e ∙ ap (λ l. take at ys ++ l) (sym (take_rest xs at) ∙ f ∙ take_rest ys at) ∙ take-append-drop at ys,
   λ f. ap (λ l. take (length l - at) (drop at l)) f,
 )
 
--- lists that are the same up to a place compare as the rest
-order_behind : (at : ℕ) (xs ys : List ℕ) → take at xs ≡ take at ys → slice_cmp nat_cmp (drop at xs) (drop at ys) ≡ slice_cmp nat_cmp xs ys
-order_behind zero xs ys e = refl
-order_behind (suc at) [] [] e = refl
-order_behind (suc at) [] (y ∷ ys) e = let long = ap length e in absurd (omega (arith, long))
-order_behind (suc at) (x ∷ xs) [] e = let long = ap length e in absurd (omega (arith, long))
-order_behind (suc at) (x ∷ xs) (y ∷ ys) e =
+-- lists that are the same up to a cell compare as the rest
+order_following : (at : ℕ) (xs ys : List ℕ) → take at xs ≡ take at ys → slice_cmp nat_cmp (drop at xs) (drop at ys) ≡ slice_cmp nat_cmp xs ys
+order_following zero xs ys e = refl
+order_following (suc at) [] [] e = refl
+order_following (suc at) [] (y ∷ ys) e = let long = ap length e in absurd (omega (arith, long))
+order_following (suc at) (x ∷ xs) [] e = let long = ap length e in absurd (omega (arith, long))
+order_following (suc at) (x ∷ xs) (y ∷ ys) e =
     let first : x ≡ y = ap head_of e in
     let tied : nat_cmp x y ≡ Equal = ap (nat_cmp x) (sym first) ∙ tied_itself nat_cmp_total x in
-    order_behind at xs ys (ap (drop 1) e) ∙ sym (ap (λ o. ordering_then o (slice_cmp nat_cmp xs ys)) tied)
+    order_following at xs ys (ap (drop 1) e) ∙ sym (ap (λ o. ordering_then o (slice_cmp nat_cmp xs ys)) tied)
 
 pub order_by_rest : (xs ys : List ℕ) (at : ℕ) → take at xs ≡ take at ys
     → slice_cmp nat_cmp (take (length xs - at) (drop at xs)) (take (length ys - at) (drop at ys)) ≡ slice_cmp nat_cmp xs ys
 order_by_rest xs ys at e =
     ap (λ l. slice_cmp nat_cmp l (take (length ys - at) (drop at ys))) (take_rest xs at)
     ∙ ap (slice_cmp nat_cmp (drop at xs)) (take_rest ys at)
-    ∙ order_behind at xs ys e
+    ∙ order_following at xs ys e

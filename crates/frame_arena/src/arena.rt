@@ -34,7 +34,7 @@ impl Model for FrameArena {
 }
 
 /// Where a frame's byte stands in the block.
-fn place(frame: u32, at: u32) -> usize
+fn offset(frame: u32, at: u32) -> usize
     requires { at ≤ PAGE_SIZE }
     ensures { result ≡ frame * 4096 + at }
 {
@@ -47,7 +47,7 @@ impl FrameArena {
     pub fn new(alloc: Global, frames: u32) -> Result<Self, AllocError>
         ensures { IfOk result (λ arena. arena ≡ replicate frames zero_page) }
     {
-        let block = Bytes::zeros(alloc, place(frames, 0))?;
+        let block = Bytes::zeros(alloc, offset(frames, 0))?;
         Ok(FrameArena { frames, block })
     }
 
@@ -80,7 +80,7 @@ impl FrameArena {
         ensures { self.new ≡ slice_set self.old frame
             (with_part (page_at self.old frame) at (bytes_of size value)) }
     {
-        let start = place(frame, at);
+        let start = offset(frame, at);
         block::put_number(self.block.as_mut_slice(), start, size as usize, value);
     }
 
@@ -100,7 +100,7 @@ impl FrameArena {
         ensures { self.new ≡ slice_set self.old frame
             (with_part (page_at self.old frame) at bytes.now) }
     {
-        let start = place(frame, at);
+        let start = offset(frame, at);
         block::put(self.block.as_mut_slice(), start, bytes);
     }
 
@@ -110,8 +110,8 @@ impl FrameArena {
         requires to { to < length self.old }
         ensures { self.new ≡ slice_set self.old to (page_at self.old from) }
     {
-        let from = place(from, 0);
-        let to = place(to, 0);
+        let from = offset(from, 0);
+        let to = offset(to, 0);
         block::copy(self.block.as_mut_slice(), from, to);
     }
 
@@ -154,7 +154,7 @@ impl FrameArena {
         requires { frame < length self.old }
         ensures { self.new ≡ slice_set self.old frame zero_page }
     {
-        block::clear(self.block.as_mut_slice(), place(frame, 0));
+        block::clear(self.block.as_mut_slice(), offset(frame, 0));
     }
 
     /// The bytes of a frame.
@@ -163,7 +163,7 @@ impl FrameArena {
         ensures bytes { result.now ≡ page_at self.now frame }
         ensures sized { length result.now ≡ PAGE_SIZE }
     {
-        block::part(self.block.as_slice(), place(frame, 0), PAGE_SIZE as usize)
+        block::part(self.block.as_slice(), offset(frame, 0), PAGE_SIZE as usize)
     }
 
     /// Some bytes of a frame, from the byte `at` on.
@@ -173,6 +173,6 @@ impl FrameArena {
         ensures bytes { result.now ≡ part_of (page_at self.now frame) at size }
         ensures sized { length result.now ≡ size }
     {
-        block::part(self.block.as_slice(), place(frame, at), size)
+        block::part(self.block.as_slice(), offset(frame, at), size)
     }
 }

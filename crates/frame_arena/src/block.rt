@@ -1,4 +1,4 @@
-//! Bytes of a block by their place, and pages of a block by the place of their first byte.
+//! Bytes of a block by their offset, and pages of a block by the offset of their first byte.
 ghost use Rattle.std.specs.Prelude.{◌≡◌, ◌+◌, ◌<◌, ◌≤◌, ◌⊎◌, All, fold, length, replicate};
 ghost use Rattle.host_types.specs.Bytes.{bytes_of, part_of, with_part};
 ghost use Rattle.host_types.specs.Pages.{zero_page, folded, fingerprint_of};
@@ -47,7 +47,7 @@ pub(crate) fn clear(block: &mut [u8], start: usize)
     block[start..start + PAGE_SIZE as usize].fill(0);
 }
 
-/// Copies a page to another place. The two don't overlap, or are one.
+/// Copies a page to another offset. The two don't overlap, or are one.
 pub(crate) fn copy(block: &mut [u8], from: usize, to: usize)
     requires from { from + PAGE_SIZE ≤ length block.old }
     requires to { to + PAGE_SIZE ≤ length block.old }

@@ -17,7 +17,7 @@ pub(crate) struct Bytes {
 
 impl Model for Bytes {
     ghost use Rattle.std.specs.Prelude.{ℕ, List};
-    ghost use Rattle.frame_arena.specs.Places.{somes};
+    ghost use Rattle.frame_arena.specs.Offsets.{somes};
     ghost use Rattle.frame_arena.specs.Bytes.{IsBlock};
 
     ghost Value = { List ℕ };

@@ -68,7 +68,7 @@ impl<'a> Counted<'a> {
     pub fn order(&mut self, a: u32, b: u32) -> Ordering
         requires a { a < length self.old.pages }
         requires b { b < length self.old.pages }
-        ensures told { result ≡ slice_cmp nat_cmp (page_at self.old.pages a) (page_at self.old.pages b) }
+        ensures answered { result ≡ slice_cmp nat_cmp (page_at self.old.pages a) (page_at self.old.pages b) }
         ensures counted { self.new ≡ record self.old { steps = self.old.steps + 1 } }
     {
         self.count();
@@ -79,7 +79,7 @@ impl<'a> Counted<'a> {
     pub fn same(&mut self, a: u32, b: u32) -> bool
         requires a { a < length self.old.pages }
         requires b { b < length self.old.pages }
-        ensures told { IsTrue result ↔ (page_at self.old.pages a ≡ page_at self.old.pages b) }
+        ensures answered { IsTrue result ↔ (page_at self.old.pages a ≡ page_at self.old.pages b) }
         ensures counted { self.new ≡ record self.old { steps = self.old.steps + 1 } }
     {
         self.count();
@@ -91,7 +91,7 @@ impl<'a> Counted<'a> {
         requires frame { frame < length self.old.pages }
         requires size { IsAccessSize size }
         requires within { at + size ≤ PAGE_SIZE }
-        ensures told { result ≡ number_of (part_of (page_at self.old.pages frame) at size) }
+        ensures answered { result ≡ number_of (part_of (page_at self.old.pages frame) at size) }
         ensures counted { self.new ≡ record self.old { steps = self.old.steps + 1 } }
     {
         self.count();
@@ -102,7 +102,7 @@ impl<'a> Counted<'a> {
     pub fn get(&mut self, frame: u32, at: u32, into: &mut [u8])
         requires frame { frame < length self.old.pages }
         requires within { at + length into.old ≤ PAGE_SIZE }
-        ensures told { into.new ≡ part_of (page_at self.old.pages frame) at (length into.old) }
+        ensures answered { into.new ≡ part_of (page_at self.old.pages frame) at (length into.old) }
         ensures counted { self.new ≡ record self.old { steps = self.old.steps + 1 } }
     {
         self.count();
@@ -112,7 +112,7 @@ impl<'a> Counted<'a> {
     /// `FrameArena::is_zero`, as one step.
     pub fn is_zero(&mut self, frame: u32) -> bool
         requires { frame < length self.old.pages }
-        ensures told { IsTrue result ↔ (page_at self.old.pages frame ≡ zero_page) }
+        ensures answered { IsTrue result ↔ (page_at self.old.pages frame ≡ zero_page) }
         ensures counted { self.new ≡ record self.old { steps = self.old.steps + 1 } }
     {
         self.count();
@@ -122,7 +122,7 @@ impl<'a> Counted<'a> {
     /// `FrameArena::fingerprint`, as one step.
     pub fn fingerprint(&mut self, frame: u32) -> u64
         requires { frame < length self.old.pages }
-        ensures told { result ≡ fingerprint_of (page_at self.old.pages frame) }
+        ensures answered { result ≡ fingerprint_of (page_at self.old.pages frame) }
         ensures counted { self.new ≡ record self.old { steps = self.old.steps + 1 } }
     {
         self.count();

@@ -62,7 +62,7 @@ pub(crate) fn is_zero(page: &[u8]) -> bool
     true
 }
 
-/// A place before which two lists are the same: the first 256 bytes that differ begin there, or fewer
+/// An offset before which two lists are the same: the first 256 bytes that differ begin there, or fewer
 /// than 256 are left.
 fn alike(a: &[u8], b: &[u8]) -> usize
     requires { length a.now ≡ length b.now }
@@ -76,7 +76,7 @@ fn alike(a: &[u8], b: &[u8]) -> usize
     at
 }
 
-/// Whether two lists have the same 256 bytes at a place.
+/// Whether two lists have the same 256 bytes at an offset.
 #[inline(always)]
 fn is_same_at(a: &[u8], b: &[u8], at: usize) -> bool
     requires a { at + 256 ≤ length a.now }
@@ -91,7 +91,7 @@ fn is_same_at(a: &[u8], b: &[u8], at: usize) -> bool
     )
 }
 
-/// Whether a list has 256 zeros at a place.
+/// Whether a list has 256 zeros at an offset.
 #[inline(always)]
 fn is_zero_at(bytes: &[u8], at: usize) -> bool
     requires { at + 256 ≤ length bytes.now }
@@ -105,7 +105,7 @@ fn is_zero_at(bytes: &[u8], at: usize) -> bool
     )
 }
 
-/// The bits in which 64 bytes at a place differ.
+/// The bits in which 64 bytes at an offset differ.
 #[inline(always)]
 fn apart(a: &[u8], b: &[u8], at: usize) -> u8x64
     requires a { at + 64 ≤ length a.now }
@@ -115,7 +115,7 @@ fn apart(a: &[u8], b: &[u8], at: usize) -> u8x64
     lanes_at(a, at) ^ lanes_at(b, at)
 }
 
-/// The 64 bytes at a place.
+/// The 64 bytes at an offset.
 #[inline(always)]
 fn lanes_at(bytes: &[u8], at: usize) -> u8x64
     requires { at + 64 ≤ length bytes.now }

@@ -1,11 +1,11 @@
-//! Raw memory: a block of places, each empty or holding a value. Pointers are made and followed here
+//! Raw memory: a block of cells, each empty or holding a value. Pointers are made and followed here
 //! alone, each in one small function that is proved by hand, and no contract outside the crate names one.
 ghost use Rattle.std.specs.Prelude.{◌≡◌, ℕ, ◌<◌, List, Option, Some, None, map, length, take, drop, replicate, get_or, slice_set, IfOk, ⊤};
 ghost use Rattle.std.specs.Borrow.{sem};
 ghost use Rattle.std.specs.Vec.Ownership.{FitsInBlock};
 ghost use base.Fml.{ftrue};
 ghost use denote.RawPtr.{Ptr};
-ghost use Rattle.frame_arena.specs.Places.{IsRun};
+ghost use Rattle.frame_arena.specs.Offsets.{IsRun};
 ghost use Rattle.frame_arena.specs.Ownership.{cells_own, cells_lent, deed_owns};
 
 use std::alloc::{AllocError, Allocator};
@@ -34,7 +34,7 @@ unsafe impl<T> Send for Base<T> {}
 
 unsafe impl<T> Sync for Base<T> {}
 
-/// The owner of a block's places. It takes no space: who holds it keeps the pointer and the length.
+/// The owner of a block's cells. It takes no space: who holds it keeps the pointer and the length.
 pub struct Cells<T> {
     mark: PhantomData<*const T>,
     ghost at: { Ptr },
@@ -51,7 +51,7 @@ unsafe impl<T: Send> Send for Cells<T> {}
 
 unsafe impl<T: Sync> Sync for Cells<T> {}
 
-/// The right to give the block of `len` places at `at` back to `alloc`, which can be used once. It takes
+/// The right to give the block of `len` cells at `at` back to `alloc`, which can be used once. It takes
 /// no space.
 pub struct Deed<T, A: Allocator> {
     mark: PhantomData<*const (T, A)>,
@@ -71,7 +71,7 @@ unsafe impl<T, A: Allocator + Send> Send for Deed<T, A> {}
 // A `&` to it holds nothing.
 unsafe impl<T, A: Allocator> Sync for Deed<T, A> {}
 
-/// A block of so many empty places.
+/// A block of so many empty cells.
 pub(crate) fn allocate<T, A: Allocator>(
     alloc: &A,
     len: usize,
@@ -94,7 +94,7 @@ pub(crate) fn allocate<T, A: Allocator>(
     }
 }
 
-/// Gives a block back, whatever its places hold. The right to do so is used up.
+/// Gives a block back, whatever its cells hold. The right to do so is used up.
 pub(crate) fn deallocate<T, A: Allocator>(
     alloc: &A,
     base: Base<T>,
@@ -114,7 +114,7 @@ pub(crate) fn deallocate<T, A: Allocator>(
 impl<T> Cells<T> {
     ghost use Rattle.frame_arena.specs.Lends.{lends_run};
 
-    /// Writes a value into an empty place.
+    /// Writes a value into an empty cell.
     pub(crate) fn write(&mut self, base: Base<T>, index: usize, item: T)
         requires { (base.ptr ≡ self.old.at) × (index < length self.old.slots) × (get_or self.old.slots index None ≡ None) }
         ensures { (self.new.at ≡ self.old.at) × (self.new.slots ≡ slice_set self.old.slots index (Some item)) }

@@ -1,4 +1,4 @@
-//! The one number that a tenant is told of others: how many frames may be had where it lacks some.
+//! The one number that a tenant learns of others: how many frames may be had where it lacks some.
 
 use crate::events::bytes_of;
 use crate::pairs::replies_to;
@@ -8,8 +8,8 @@ use isolation::both;
 use std::alloc::{AllocError, Global};
 use std::io;
 
-/// The tenant that is told, and the other one, which stores a value or doesn't.
-const TOLD: u32 = 0;
+/// The tenant that is reported, and the other one, which stores a value or doesn't.
+const ANSWERED: u32 = 0;
 
 const STORES: u32 = 1;
 
@@ -47,7 +47,7 @@ fn store(alloc: Global, tenant: u32, value_size: u32) -> Result<Event, AllocErro
 fn opening(alloc: Global) -> Result<Vec<Event>, AllocError> {
     let mut events = Vec::new(alloc);
     events.push(map_of(STORES, 4096, 2))?;
-    events.push(map_of(TOLD, 8, 2))?;
+    events.push(map_of(ANSWERED, 8, 2))?;
     for _ in 0..VISITS {
         events.push(Event::Visit)?;
     }
@@ -57,15 +57,15 @@ fn opening(alloc: Global) -> Result<Vec<Event>, AllocError> {
 /// The tenant asks for more frames than there are. The other one's map is dropped, and the tenant writes one element
 /// and reads the other one, which lies in the same page.
 fn push_asking(alloc: Global, events: &mut Vec<Event>) -> Result<(), AllocError> {
-    events.push(map_of(TOLD, 4096, MANY))?;
+    events.push(map_of(ANSWERED, 4096, MANY))?;
     events.push(Event::DropMap {
         tenant: STORES,
         map: 0,
     })?;
-    let value = store(alloc, TOLD, 8)?;
+    let value = store(alloc, ANSWERED, 8)?;
     events.push(value)?;
     events.push(Event::HostLookup {
-        tenant: TOLD,
+        tenant: ANSWERED,
         map: 0,
         key: 1,
     })?;
@@ -127,9 +127,9 @@ fn print_both(
     let events = list_of(alloc, true)?;
     let others = list_of(alloc, false)?;
     let (replies, further) = both(left, right, &events, &others)?;
-    let with = replies_to(alloc, TOLD, &events, &replies)?;
+    let with = replies_to(alloc, ANSWERED, &events, &replies)?;
     print_replies(rt, "another tenant stores", &with)?;
-    let without = replies_to(alloc, TOLD, &others, &further)?;
+    let without = replies_to(alloc, ANSWERED, &others, &further)?;
     print_replies(rt, "it doesn't store", &without)
 }
 

@@ -86,7 +86,7 @@ fn after(tenant: u32, distance: u32) -> u32 {
     tenant.saturating_add(distance) % TENANTS
 }
 
-/// A list with the events of a tenant that one seed tells, and others that another one tells.
+/// A list with the events of a tenant that one seed gives, and others that another one gives.
 pub(crate) fn list_of(
     alloc: Global,
     own: u64,
@@ -105,7 +105,7 @@ pub(crate) fn list_of(
     Ok(events)
 }
 
-/// Options that a seed tells.
+/// Options that a seed gives.
 pub(crate) fn options_of(seed: u64) -> Options {
     let mut draws = Draws::new(seed);
     Options {

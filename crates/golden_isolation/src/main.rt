@@ -1,7 +1,7 @@
 //! Pairs of lists that a fixed generator draws: each has the same events of one tenant, and what happens between them is
 //! drawn apart, for hosts of other frames and options. The file `stdout` says that the tenant is answered the same in both, and has
-//! the same values afterwards; that in one pair of a hundred, where one host lacks frames, this holds up to the first reply that tells so; and
-//! which number tells of another tenant's store.
+//! the same values afterwards; that in one pair of a hundred, where one host lacks frames, this holds up to the first reply that says so; and
+//! which number says of another tenant's store.
 #![tactic(auto)]
 
 mod channel;
@@ -44,7 +44,7 @@ fn lacks_frames(pair: u32) -> bool {
     pair % RARELY == 0
 }
 
-/// A host with a number of frames, and options that a seed tells.
+/// A host with a number of frames, and options that a seed gives.
 fn host(alloc: Global, frames: u32, seed: u64) -> Result<Host, Fault> {
     Host::new(alloc, frames, TENANTS, options_of(seed))
 }
@@ -127,7 +127,7 @@ fn print_ends(rt: &impl Print, ends: Ends) -> io::Result<()> {
     }
 }
 
-/// Prints whether so much happened that the comparison tells something.
+/// Prints whether so much happened that the comparison says something.
 fn print_tally(rt: &impl Print, tally: Tally) -> io::Result<()> {
     let enough = tally.compared >= 100_000
         && tally.ended >= 1_000

@@ -17,13 +17,13 @@ const STEPS: u64 = 4_294_967_296;
 pub(crate) enum Outcome {
     /// All replies to the tenant and all its values are the same.
     Same,
-    /// The replies are the same up to one that tells of scarce frames.
+    /// The replies are the same up to one that speaks of scarce frames.
     Scarce,
     /// Something differs.
     Different,
 }
 
-/// Whether a reply tells of scarce frames or memory.
+/// Whether a reply speaks of scarce frames or memory.
 pub(crate) fn is_scarce(reply: &Reply) -> bool {
     matches!(
         reply,

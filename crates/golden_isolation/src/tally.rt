@@ -3,7 +3,7 @@
 use host_core::Reply;
 use host_types::Visited;
 
-/// How many replies to the tenants were compared, how many of them tell that a run ended or that an event was refused, and
+/// How many replies to the tenants were compared, how many of them say that a run ended or that an event was refused, and
 /// how many pages of all came to share frames.
 #[derive(Clone, Copy, Drop)]
 pub(crate) struct Tally {

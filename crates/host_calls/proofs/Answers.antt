@@ -10,7 +10,7 @@ use Rattle.host_types.specs.Sharing.{Sharing}
 use Rattle.host_types.specs.Tenant.{TenantPart}
 use Rattle.page_table.specs.Changes.{with_pins}
 use Rattle.page_table.specs.State.{MemoryState, part}
-use Rattle.write_break.specs.Stores.{touched, place_of_byte, pinned_as, stored_sharing}
+use Rattle.write_break.specs.Stores.{touched, page_of_byte, with_pins_of, stored_sharing}
 use Rattle.write_break.proofs.Stores.{pins-none}
 use Rattle.map_helpers.specs.Updates.{part_updated, sharing_in, updated_sharing_as}
 use Rattle.host_calls.specs.Calls.{FitsValue}
@@ -47,12 +47,12 @@ pins-none_open None s t m key flags = refl
 pins-none_open (Some flat) s t m key flags = either (update_answer flat.shape key flags == 0)
   where
     either : (b : Bool) → (if b then stored_sharing false s t m (element_at flat.shape key) flat.shape.value_size else s).pins ≡ s.pins
-    either true = pins-none s (place_of_byte t m (element_at flat.shape key)) (touched (element_at flat.shape key) flat.shape.value_size)
+    either true = pins-none s (page_of_byte t m (element_at flat.shape key)) (touched (element_at flat.shape key) flat.shape.value_size)
     either false = refl
 
 -- so the tenant's part is what the update makes of it
 pub unpinned : (old new : MemoryState) (t m key flags : ℕ) (value : List ℕ) → new.sharing ≡ updated_sharing_as false (part old t) old.sharing t m key flags
-    → pinned_as new.sharing t (part_updated (part old t) m key value flags) ≡ part_updated (part old t) m key value flags
+    → with_pins_of new.sharing t (part_updated (part old t) m key value flags) ≡ part_updated (part old t) m key value flags
 unfolding part
 unpinned old new t m key flags value shares =
     let pins : new.sharing.pins ≡ old.sharing.pins =

@@ -12,7 +12,7 @@ use Rattle.host_types.specs.Memory.{FlatMap, map_at}
 use Rattle.host_types.specs.Tenant.{TenantPart, IsFlatMap}
 use Rattle.page_table.specs.State.{MemoryState, part, have_of}
 use Rattle.page_table.proofs.Recording.{length-part}
-use Rattle.host_calls.specs.Calls.{RefusesLookup, RefusesUpdate, TellsHave, lookup_refusal_in, or_bad_tenant, refused_lookup, refused_update, update_refusal_in}
+use Rattle.host_calls.specs.Calls.{RefusesLookup, RefusesUpdate, NamesHave, lookup_refusal_in, or_bad_tenant, refused_lookup, refused_update, update_refusal_in}
 
 -- a tenant is there just where the memory has it
 module _ (memory : MemoryState) (t : ℕ) (all : length memory.maps ≡ length memory.tenants * 8) where
@@ -34,20 +34,20 @@ shape_in found = option_map (λ (flat : FlatMap). flat.shape) found
 abbrev pub bytes_in : Option FlatMap → List ℕ
 bytes_in found = unwrap_or (option_map (λ (flat : FlatMap). flat.bytes) found) []
 
--- a test tells whether a tenant has eight places for maps
-pub eight-told : (owned : TenantPart) → length owned.maps ≡ 8 → (length owned.maps == 8) ≡ true
-eight-told owned is = rw is refl
+-- a test says whether a tenant has eight entries for maps
+pub eight-answered : (owned : TenantPart) → length owned.maps ≡ 8 → (length owned.maps == 8) ≡ true
+eight-answered owned is = rw is refl
 
 pub eight-missing : (owned : TenantPart) → ¬ (length owned.maps ≡ 8) → (length owned.maps == 8) ≡ false
 eight-missing owned none = by_test (length owned.maps == 8) refl
   where
     by_test : (b : Bool) → (length owned.maps == 8) ≡ b → (length owned.maps == 8) ≡ false
-    by_test true told = absurd (none (grind (arith, nat_tests)))
-    by_test false told = told
+    by_test true answered = absurd (none (grind (arith, nat_tests)))
+    by_test false answered = answered
 
 -- what is refused of a tenant that is there
 pub or_bad-there : (owned : TenantPart) (refusal first : Option Fault) → length owned.maps ≡ 8 → refusal ≡ first → or_bad_tenant owned refusal ≡ first
-or_bad-there owned refusal first eight is = ap (λ b. if b then refusal else Some BadTenant) (eight-told owned eight) ∙ is
+or_bad-there owned refusal first eight is = ap (λ b. if b then refusal else Some BadTenant) (eight-answered owned eight) ∙ is
 
 pub or_bad-missing : (owned : TenantPart) (refusal : Option Fault) → ¬ (length owned.maps ≡ 8) → or_bad_tenant owned refusal ≡ Some BadTenant
 or_bad-missing owned refusal none = ap (λ b. if b then refusal else Some BadTenant) (eight-missing owned none)
@@ -57,8 +57,8 @@ there-free : (owned : TenantPart) (refusal : Option Fault) → or_bad_tenant own
 there-free owned refusal free = by_test (length owned.maps == 8) refl
   where
     by_test : (b : Bool) → (length owned.maps == 8) ≡ b → length owned.maps ≡ 8
-    by_test true told = grind (arith, nat_tests)
-    by_test false told = absurd (let bad : or_bad_tenant owned refusal ≡ Some BadTenant = ap (λ b. if b then refusal else Some BadTenant) told in cc)
+    by_test true answered = grind (arith, nat_tests)
+    by_test false answered = absurd (let bad : or_bad_tenant owned refusal ≡ Some BadTenant = ap (λ b. if b then refusal else Some BadTenant) answered in cc)
 
 -- ---- Lookups and updates of a tenant's map that are refused, by what may be the map
 
@@ -73,15 +73,15 @@ module _ (shape : Shape) (key : ℕ) where
   element-refused None is past = absurd (cc)
   element-refused (Some flat) is past =
       let same : flat.shape ≡ shape = cc in
-      let told : nat_le flat.shape.entries key ≡ true = grind (arith, nat_tests, ap (λ (s : Shape). s.entries) same) in
-      ap (λ b. if b then Some NoElement else None) told
+      let answered : nat_le flat.shape.entries key ≡ true = grind (arith, nat_tests, ap (λ (s : Shape). s.entries) same) in
+      ap (λ b. if b then Some NoElement else None) answered
 
   pub element-allowed : (found : Option FlatMap) → shape_in found ≡ Some shape → key < shape.entries → lookup_refusal_in found key ≡ None
   element-allowed None is less = absurd (cc)
   element-allowed (Some flat) is less =
       let same : flat.shape ≡ shape = cc in
-      let told : nat_le flat.shape.entries key ≡ false = grind (arith, nat_tests, ap (λ (s : Shape). s.entries) same) in
-      ap (λ b. if b then Some NoElement else None) told
+      let answered : nat_le flat.shape.entries key ≡ false = grind (arith, nat_tests, ap (λ (s : Shape). s.entries) same) in
+      ap (λ b. if b then Some NoElement else None) answered
 
 -- an update is refused where a lookup is
 update-element : (found : Option FlatMap) (key : ℕ) (value : List ℕ) (have : ℕ) (fault : Fault) → lookup_refusal_in found key ≡ Some fault → update_refusal_in found key value have ≡ Some fault
@@ -89,30 +89,30 @@ update-element None key value have fault refused = refused
 update-element (Some flat) key value have fault refused = by_test (nat_le flat.shape.entries key) refl
   where
     by_test : (b : Bool) → nat_le flat.shape.entries key ≡ b → update_refusal_in (Some flat) key value have ≡ Some fault
-    by_test true told = rw told (rw told at refused)
-    by_test false told = absurd (let none = rw told at refused in cc)
+    by_test true answered = rw answered (rw answered at refused)
+    by_test false answered = absurd (let none = rw answered at refused in cc)
 
 -- numbers that differ
 differs : (a b : ℕ) → a ≢ b → (a == b) ≡ false
 differs a b other = by_test (a == b) refl
   where
     by_test : (c : Bool) → (a == b) ≡ c → (a == b) ≡ false
-    by_test true told = absurd (other (grind (arith, nat_tests)))
-    by_test false told = told
+    by_test true answered = absurd (other (grind (arith, nat_tests)))
+    by_test false answered = answered
 
 -- what holds of an update of each map of a shape holds of the one that is found
 by_map : (first : Option Fault) (key have : ℕ) (value : List ℕ) (shape : Shape) (found : Option FlatMap) → shape_in found ≡ Some shape → ((flat : FlatMap) → flat.shape ≡ shape → update_refusal_in (Some flat) key value have ≡ first) → update_refusal_in found key value have ≡ first
 by_map first key have value shape None is each = absurd (cc)
 by_map first key have value shape (Some flat) is each = each flat (cc)
 
--- what a refusal of a lookup tells of frames: nothing
-told-nothing : (memory : MemoryState) (found : Option FlatMap) (key : ℕ) (fault : Fault) → lookup_refusal_in found key ≡ Some fault → TellsHave memory fault
-told-nothing memory None key fault refused = let same : fault ≡ NoMap = cc in rw same tt
-told-nothing memory (Some flat) key fault refused = by_test (nat_le flat.shape.entries key) refl
+-- what a refusal of a lookup says of frames: nothing
+answered-nothing : (memory : MemoryState) (found : Option FlatMap) (key : ℕ) (fault : Fault) → lookup_refusal_in found key ≡ Some fault → NamesHave memory fault
+answered-nothing memory None key fault refused = let same : fault ≡ NoMap = cc in rw same tt
+answered-nothing memory (Some flat) key fault refused = by_test (nat_le flat.shape.entries key) refl
   where
-    by_test : (b : Bool) → nat_le flat.shape.entries key ≡ b → TellsHave memory fault
-    by_test true told = let is = rw told at refused in let same : fault ≡ NoElement = cc in rw same tt
-    by_test false told = absurd (let none = rw told at refused in cc)
+    by_test : (b : Bool) → nat_le flat.shape.entries key ≡ b → NamesHave memory fault
+    by_test true answered = let is = rw answered at refused in let same : fault ≡ NoElement = cc in rw same tt
+    by_test false answered = absurd (let none = rw answered at refused in cc)
 
 module _ (memory : MemoryState) (t m key : ℕ) (value : List ℕ) where
   abbrev owned : TenantPart
@@ -125,21 +125,21 @@ module _ (memory : MemoryState) (t m key : ℕ) (value : List ℕ) where
   by_there P is_there is_missing = by_test (length owned.maps == 8) refl
     where
       by_test : (b : Bool) → (length owned.maps == 8) ≡ b → P
-      by_test true told = is_there told
-      by_test false told = is_missing told
+      by_test true answered = is_there answered
+      by_test false answered = is_missing answered
 
   pub update_first : (fault : Fault) → refused_lookup memory t m key ≡ Some fault → refused_update memory t m key value ≡ Some fault
   update_first fault refused =
       by_there (refused_update memory t m key value ≡ Some fault)
-      (λ told. or_bad-there owned (update_refusal_in found key value (have_of memory)) (Some fault) (grind (arith, nat_tests))
-      (update-element found key value (have_of memory) fault (sym (ap (λ b. if b then lookup_refusal_in found key else Some BadTenant) told) ∙ refused)))
-      (λ told. ap (λ b. if b then update_refusal_in found key value (have_of memory) else Some BadTenant) told ∙ (sym (ap (λ b. if b then lookup_refusal_in found key else Some BadTenant) told) ∙ refused))
+      (λ answered. or_bad-there owned (update_refusal_in found key value (have_of memory)) (Some fault) (grind (arith, nat_tests))
+      (update-element found key value (have_of memory) fault (sym (ap (λ b. if b then lookup_refusal_in found key else Some BadTenant) answered) ∙ refused)))
+      (λ answered. ap (λ b. if b then update_refusal_in found key value (have_of memory) else Some BadTenant) answered ∙ (sym (ap (λ b. if b then lookup_refusal_in found key else Some BadTenant) answered) ∙ refused))
 
-  pub lookup_told : (fault : Fault) → refused_lookup memory t m key ≡ Some fault → TellsHave memory fault
-  lookup_told fault refused =
-      by_there (TellsHave memory fault)
-      (λ told. told-nothing memory found key fault (sym (ap (λ b. if b then lookup_refusal_in found key else Some BadTenant) told) ∙ refused))
-      (λ told. let is : Some BadTenant ≡ Some fault = sym (ap (λ b. if b then lookup_refusal_in found key else Some BadTenant) told) ∙ refused in let same : fault ≡ BadTenant = cc in rw same tt)
+  pub lookup_answered : (fault : Fault) → refused_lookup memory t m key ≡ Some fault → NamesHave memory fault
+  lookup_answered fault refused =
+      by_there (NamesHave memory fault)
+      (λ answered. answered-nothing memory found key fault (sym (ap (λ b. if b then lookup_refusal_in found key else Some BadTenant) answered) ∙ refused))
+      (λ answered. let is : Some BadTenant ≡ Some fault = sym (ap (λ b. if b then lookup_refusal_in found key else Some BadTenant) answered) ∙ refused in let same : fault ≡ BadTenant = cc in rw same tt)
 
   pub lookup_refuses : (fault : Fault) → refused_lookup memory t m key ≡ Some fault → RefusesLookup owned m key fault
   lookup_refuses fault refused = inl refused
@@ -173,14 +173,14 @@ module _ (memory : MemoryState) (t m key : ℕ) (value : List ℕ) where
 
     pub value_refused : ¬ (length value ≡ shape.value_size) → refused_update memory t m key value ≡ Some BadShape
     value_refused other =
-        let told : (length value == shape.value_size) ≡ false = differs (length value) shape.value_size other in
-        or_bad-there owned (update_refusal_in found key value (have_of memory)) (Some BadShape) eight (by_map (Some BadShape) key (have_of memory) value shape found is (λ flat same. refusal flat same ∙ ap (λ b. if b then (if nat_lt (have_of memory) (update_charge shape) then Some (NoFrames (update_charge shape) (have_of memory)) else None) else Some BadShape) told))
+        let answered : (length value == shape.value_size) ≡ false = differs (length value) shape.value_size other in
+        or_bad-there owned (update_refusal_in found key value (have_of memory)) (Some BadShape) eight (by_map (Some BadShape) key (have_of memory) value shape found is (λ flat same. refusal flat same ∙ ap (λ b. if b then (if nat_lt (have_of memory) (update_charge shape) then Some (NoFrames (update_charge shape) (have_of memory)) else None) else Some BadShape) answered))
 
     pub frames_refused : (need have : ℕ) → length value ≡ shape.value_size → need ≡ update_charge shape → have ≡ have_of memory → have < need → refused_update memory t m key value ≡ Some (NoFrames need have)
-    frames_refused need have sized charge told few =
+    frames_refused need have sized charge answered few =
         let same_size : (length value == shape.value_size) ≡ true = grind (arith, nat_tests) in
         let missing : nat_lt (have_of memory) (update_charge shape) ≡ true = grind (arith, nat_tests) in
-        let numbers : Some (NoFrames (update_charge shape) (have_of memory)) ≡ Some (NoFrames need have) = rw (charge, told) refl in
+        let numbers : Some (NoFrames (update_charge shape) (have_of memory)) ≡ Some (NoFrames need have) = rw (charge, answered) refl in
         or_bad-there owned (update_refusal_in found key value (have_of memory)) (Some (NoFrames need have)) eight (by_map (Some (NoFrames need have)) key (have_of memory) value shape found is (λ flat same. refusal flat same
         ∙ ap (λ b. if b then (if nat_lt (have_of memory) (update_charge shape) then Some (NoFrames (update_charge shape) (have_of memory)) else None) else Some BadShape) same_size
         ∙ ap (λ b. if b then Some (NoFrames (update_charge shape) (have_of memory)) else None) missing ∙ numbers))

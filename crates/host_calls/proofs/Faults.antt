@@ -86,13 +86,13 @@ abbrev answered_fault : Refused → Fault
 answered_fault refused = if refused.number == 41 then OutOfMemory else Program refused
 
 -- a text that was not decoded
-pub judged_undecoded : (p : Subject) (text : List ℕ) (refused : Refused) (fault : Fault) → p.text ≡ text → fault ≡ answered_fault refused → (refused ≡ out_of_memory) ⊎ IsFirstFault text refused
+pub verdict_undecoded : (p : Subject) (text : List ℕ) (refused : Refused) (fault : Fault) → p.text ≡ text → fault ≡ answered_fault refused → (refused ≡ out_of_memory) ⊎ IsFirstFault text refused
     → ((other : Refused) → IsFirstFault text other → refused ≡ other) → IsJudgement p fault
-judged_undecoded p text refused fault whose is (inl lacks) one =
+verdict_undecoded p text refused fault whose is (inl lacks) one =
     let none : HasNoFault text = λ other fails. let few = first_fault_few text other fails in let same = one other fails in absurd (omega (arith, few, ap (λ (r : Refused). r.number) same, ap (λ (r : Refused). r.number) lacks)) in
     let memory : fault ≡ OutOfMemory = rw lacks at is in
     inl (memory, rw whose (no_fault_fine text none))
-judged_undecoded p text refused fault whose is (inr fails) one =
+verdict_undecoded p text refused fault whose is (inr fails) one =
     let few = first_fault_few text refused fails in
     let other : (refused.number == 41) ≡ false = grind (arith, few) in
     inr (refused, rw (other) at is, inl (rw whose fails))

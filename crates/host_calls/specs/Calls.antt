@@ -12,11 +12,11 @@ use Rattle.host_types.specs.Tenant.{TenantPart}
 use Rattle.page_table.specs.Limits.{page_count}
 use Rattle.page_table.specs.State.{MemoryState, part, free_number, have_of}
 
--- the tenant is there: it has its eight places for maps
+-- the tenant is there: it has its eight entries for maps
 abbrev pub IsThere : TenantPart → Type 0
 IsThere owned = length owned.maps ≡ 8
 
--- the value is one of the map's, and has a place in it
+-- the value is one of the map's, and has an index in it
 abbrev pub FitsValue : TenantPart → ℕ → ℕ → List ℕ → Type 0
 FitsValue owned m key value = IsSomeAnd (map_at owned.maps m) (λ flat. (key < flat.shape.entries) × (length value ≡ flat.shape.value_size))
 
@@ -102,7 +102,7 @@ RefusesLookup owned m key fault =
     (or_bad_tenant owned (lookup_refusal owned m key) ≡ Some fault)
     ⊎ ((fault ≡ OutOfMemory) × (or_bad_tenant owned (lookup_refusal owned m key) ≡ None))
 
--- where frames are missing, the frames that may be had are told
-abbrev pub TellsHave : MemoryState → Fault → Type 0
-TellsHave memory (NoFrames need have) = have ≡ have_of memory
-TellsHave memory _ = Unit {0}
+-- where frames are missing, the frames that may be had are reported
+abbrev pub NamesHave : MemoryState → Fault → Type 0
+NamesHave memory (NoFrames need have) = have ≡ have_of memory
+NamesHave memory _ = Unit {0}

@@ -1,4 +1,4 @@
--- What a tenant's programs are judged by, and when a run of one may not begin: over the tenant's part alone.
+-- What a tenant's programs are verified by, and when a run of one may not begin: over the tenant's part alone.
 use Rattle.std.specs.Prelude.{◌≡◌, ◌⊎◌, ℕ, ◌<◌, List, map, Option, option_map}
 use Rattle.host_types.specs.declared.fault.Fault.{Fault}
 use Rattle.host_types.specs.declared.fault.Fault.TheVariants.{Program, NoFrames, BadContext, OutOfMemory}

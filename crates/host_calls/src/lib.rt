@@ -3,18 +3,18 @@
 //! what another tenant has.
 #![tactic(auto)]
 
-mod beginning;
-mod creating;
-mod loading;
-mod looking;
+mod begin;
+mod create;
+mod load;
+mod lookup;
 mod shapes;
 mod sharing;
-mod updating;
+mod update;
 
-pub use beginning::host_begin;
-pub use creating::host_create_map;
-pub use loading::judge;
-pub use looking::host_lookup;
+pub use begin::host_begin;
+pub use create::host_create_map;
+pub use load::decode_and_verify;
+pub use lookup::host_lookup;
 pub use shapes::host_shapes;
 pub use sharing::{host_set, host_unmerge};
-pub use updating::host_update;
+pub use update::host_update;

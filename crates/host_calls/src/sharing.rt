@@ -28,7 +28,7 @@ pub fn host_set(memory: &mut Memory, option: Opt, value: u32) -> Result<(), Faul
 /// Gives each page that shares a frame one of its own, in page order, and stops the scanner. No tenant's
 /// part changes.
 ///
-/// The one refusal is 31, just where the frames that this takes are more than `have()`; it tells both
+/// The one refusal is 31, just where the frames that this takes are more than `have()`; it gives both
 /// numbers, and changes nothing.
 pub fn host_unmerge(memory: &mut Memory) -> Result<(), Fault>
     ensures enough { OnOk result (unmerge_need memory.old.sharing ≤ have_of memory.old) }

@@ -24,10 +24,10 @@ use Rattle.interp.specs.declared.need.Need.{Need}
 use Rattle.interp.specs.declared.need.Need.TheVariants.{Private, Ended, Load, Store, Lookup, Update, Delete}
 use Rattle.interp.specs.Machine.{MachineState, Next, step}
 use Rattle.interp.specs.Needs.{map_of, answer_of, maps_after}
-use Rattle.interp.specs.OnMaps.{HasRoom, IsRoomy, StandsOn, IsMet, ReachesOn, FollowsOn}
+use Rattle.interp.specs.OnMaps.{HasRoom, IsRoomy, StandsOn, IsFulfilled, ReachesOn, FollowsOn}
 use Rattle.interp.specs.StandsFor.{Running, StandsFor, Asks, value_of}
 use Rattle.interp.specs.Written.{written, written_by}
-use Rattle.tenant_runs.specs.Meeting.{sharing_met}
+use Rattle.tenant_runs.specs.Fulfilment.{sharing_fulfilled}
 use Rattle.tenant_runs.specs.Storing.{maps_of_part, HasStoreFrames, HasStored}
 use Rattle.tenant_runs.specs.UnderWay.{IsUnderWay, IsAsking, part_with_have}
 use Rattle.tenant_runs.proofs.OnMaps.{Keeps, steps_keep}
@@ -38,7 +38,7 @@ use Rattle.host_core.specs.Happens.{sharing_after}
 use Rattle.host_core.specs.Stretches.{IsUnderWayAt, HasAdvanced, AreMade, AreMadeFrom, KeepsPins, IsAnswered, went_on, answered, ended, needed_in, part_in, reserved_of}
 use Rattle.host_core.proofs.Instructions.{instructions_before-within}
 
--- the program that was taken is the one that stands at the place
+-- the program that was taken is the one that stands at the index
 pub program_is : (programs : List (Option Accepted)) (k : ℕ) (taken : Option Accepted) (program v : Accepted) → taken ≡ get_or programs k taken → taken ≡ Some program → slice_get programs k ≡ Some (Some v) → program ≡ v
 program_is programs k taken program v read is numbered =
     let found : taken ≡ Some v = read ∙ get_or_from_slice_get programs k (Some v) taken numbered in
@@ -62,7 +62,7 @@ needed_of_part v t memory s maps =
     ap (λ (m : FlatMaps). needed_from v (record { maps = m; reserve = 0; running = true; pins = (part memory t).pins }) s.slot) maps
     ∙ ap (λ (pins : List Bool). needed_from v (record { maps = s.memory.maps; reserve = 0; running = true; pins = pins }) s.slot) (pins_of_part memory t)
 
--- The beginning of a stretch: what was reserved for the run may be had, so that as much may be had as the rest of it may need.
+-- The beginning of a batch: what was reserved for the run may be had, so that as much may be had as the rest of it may need.
 pub record IsStarted (v : Accepted) (t : ℕ) (s : MachineState) (before released : MemoryState) : Type 0 where
   pub sharing : released.sharing ≡ before.sharing
   pub frames : length released.arena ≡ length before.arena
@@ -98,7 +98,7 @@ started programs kept v s t before released under reads reads' recorded have all
       };
     }
 
--- what steps that are met make of a memory
+-- what steps that are fulfilled make of a memory
 record IsChained (v : Accepted) (t all mine : ℕ) (s : MachineState) (first : MemoryState) (n : ℕ) (u : MachineState) (memory : MemoryState) : Type 0 where
   made : AreMade v t all mine (length first.arena) s first.sharing n u memory.sharing
   maps : maps_of_part t memory ≡ u.memory.maps
@@ -141,9 +141,9 @@ chained : (v : Accepted) (t all mine : ℕ) (s : MachineState) (first : MemorySt
     → ReachesOn (HasStored t) v s first n u memory → IsChained v t all mine s first n u memory
 chained v t all mine s first zero u memory reads whole roomy (here, same) =
     rw (here, same) record { made = (refl, refl); maps = roomy.maps; room = roomy.room; reads = reads; settings = record { tenants = refl; frames = refl } }
-chained v t all mine s first (suc n) u memory reads whole roomy (w, between, reaches, makes, met) = by (chained v t all mine s first n w between reads whole roomy reaches) met
+chained v t all mine s first (suc n) u memory reads whole roomy (w, between, reaches, makes, found_open) = by (chained v t all mine s first n w between reads whole roomy reaches) found_open
   where
-    by : IsChained v t all mine s first n w between → IsMet (HasStored t) v w between u memory → IsChained v t all mine s first (suc n) u memory
+    by : IsChained v t all mine s first n w between → IsFulfilled (HasStored t) v w between u memory → IsChained v t all mine s first (suc n) u memory
     by before (inl private) =
         let same = private.same in
         let fewer = private.less in
@@ -180,7 +180,7 @@ made_from v s n t before released u memory start reaches =
 pub stands_at : (programs : List (Option Accepted)) (kept : KeptRun) (v : Accepted) (s : MachineState) (t : ℕ) (before released : MemoryState) → IsUnderWayAt programs kept v s (part before t) → IsStarted v t s before released → StandsOn (maps_of_part t) (HasStoreFrames t) v kept.run s released
 stands_at programs kept v s t before released under start = record { stands = under.stands; roomy = start.roomy }
 
--- a tenant still has eight places for maps
+-- a tenant still has eight entries for maps
 still_eight : (v : Accepted) (t : ℕ) (s : MachineState) (before released : MemoryState) (n : ℕ) (u : MachineState) (memory : MemoryState) → IsStarted v t s before released → ReachesOn (HasStored t) v s released n u memory → length (part memory t).maps ≡ 8
 still_eight v t s before released n u memory start reaches = (steps_keep v t s released n u memory reaches).maps ∙ start.eight
 
@@ -291,7 +291,7 @@ update_shares sharing t m key flags flat true = refl
 update_shares sharing t m key flags flat false = refl
 
 -- the pages that are broken are those of the bytes that are written, by an open run
-pub shares_alike : (owned : TenantPart) (sharing : Sharing) (t : ℕ) (need : Need) (flat : FlatMap) → owned.running ≡ true → map_at owned.maps (map_of need) ≡ Some flat → sharing_met owned sharing t need ≡ sharing_after sharing t (written_by need flat)
+pub shares_alike : (owned : TenantPart) (sharing : Sharing) (t : ℕ) (need : Need) (flat : FlatMap) → owned.running ≡ true → map_at owned.maps (map_of need) ≡ Some flat → sharing_fulfilled owned sharing t need ≡ sharing_after sharing t (written_by need flat)
 unfolding sharing_in
 shares_alike owned sharing t Private flat running there = refl
 shares_alike owned sharing t (Ended number) flat running there = refl
@@ -305,7 +305,7 @@ shares_alike owned sharing t (Update m key flags) flat running there = rw (there
 pub answer_made : (v : Accepted) (s here : MachineState) (t n made : ℕ) (need : Need) (run after_run : Running) (before memory after : MemoryState)
     → n ≡ suc made → AreMadeFrom v s made t before here memory.sharing → (asks : Asks v here need run) → IsAsking v here need run (part_with_have memory t)
     → ((u : MachineState) → IsAsking v u need run (part_with_have memory t) → (next : MachineState) × (step v.subject.text u ≡ Some (Next next)) × IsUnderWay v after_run next (part after t))
-    → (part after t).reserve ≡ needed_from v (part after t) run.slot → after.sharing ≡ sharing_met (part memory t) memory.sharing t need
+    → (part after t).reserve ≡ needed_from v (part after t) run.slot → after.sharing ≡ sharing_fulfilled (part memory t) memory.sharing t need
     → IsAnswered v s n t before after_run after
 answer_made v s here t n made need run after_run before memory after last reached asks asking goes reserve sharing =
     let (next, makes, way) = goes here asking in
@@ -336,7 +336,7 @@ pub asked_advanced : (kept : KeptRun) (v : Accepted) (s : MachineState) (t limit
     → (need ≡ Private → ⊥) → ((number : ℕ) → need ≡ Ended number → ⊥)
     → (n : ℕ) × FollowsOn (maps_of_part t) (HasStoreFrames t) (HasStored t) v s released n need run memory × (run.steps ≡ kept.run.steps + n) → run.steps ≤ kept.run.steps + many
     → ((here : MachineState) → IsAsking v here need run (part_with_have memory t) → (next : MachineState) × (step v.subject.text here ≡ Some (Next next)) × IsUnderWay v after_run next (part after t))
-    → (part after t).reserve ≡ needed_from v (part after t) run.slot → after_run.steps ≡ run.steps → after.sharing ≡ sharing_met (part memory t) memory.sharing t need
+    → (part after t).reserve ≡ needed_from v (part after t) run.slot → after_run.steps ≡ run.steps → after.sharing ≡ sharing_fulfilled (part memory t) memory.sharing t need
     → HasAdvanced v s t limit kept.run before None after_run after
 asked_advanced kept v s t limit many need run after_run before released memory after start least some going (n, follows, counted) most goes reserve steps sharing =
     let asked = asked_at v t s n need run released memory some going follows in

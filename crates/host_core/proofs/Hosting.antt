@@ -13,13 +13,14 @@ use Rattle.host_types.specs.Visits.{contents_in, visit}
 use Rattle.ksm_counters.specs.Counters.{counters_of}
 use Rattle.page_table.specs.Changes.{AreKept, KeepsSettings}
 use Rattle.page_table.specs.State.{MemoryState, have_of}
-use Rattle.host_core.specs.declared.event.Event.{Event}
-use Rattle.host_core.specs.declared.event.Event.TheVariants.{CreateMap, Load, Begin, Step, Visit, HostUpdate, HostLookup, Set, Unmerge, Counters, Unload, DropMap}
-use Rattle.host_core.specs.declared.event.Reply.{Reply}
-use Rattle.host_core.specs.declared.event.Reply.TheVariants.{Visited as WasVisited, Done, Counters as AreCounters, Refused}
+use Rattle.host_types.specs.declared.event.Event.{Event}
+use Rattle.host_types.specs.declared.event.Event.TheVariants.{CreateMap, Load, Begin, Step, Visit, HostUpdate, HostLookup, Set, Unmerge, Counters, Unload, DropMap}
+use Rattle.host_core.specs.declared.reply.Reply.{Reply}
+use Rattle.host_core.specs.declared.reply.Reply.TheVariants.{Visited as WasVisited, Done, Counters as AreCounters, Refused}
 use Rattle.host_core.specs.World.{System, all_maps, have_in, IsCovered}
 use Rattle.host_core.specs.Happens.{Happens, IsPromised, IsPromisedOf, SetHappens, UnmergeHappens, AllHappen, StepsHappen, changed_system}
-use Rattle.host_core.specs.HostView.{TenantView, HostView, StandsForTenant, StandsForMemory, StandsForSystem, IsKept, IsServed, HasMadeSteps, reply_of, tenant_of}
+use Rattle.host_core.specs.HostView.{TenantView, HostView, StandsForTenant, StandsForMemory, StandsForSystem, IsKept, IsServed, HasMadeSteps, reply_of}
+use Rattle.host_types.specs.Events.{tenant_of}
 use Rattle.page_table.specs.Reads.{ReadsAs}
 use Rattle.host_core.proofs.Joined.{AllHappen-join}
 use Rattle.host_core.proofs.Systems.{have_stands, shares_stands, covered}
@@ -54,7 +55,7 @@ hosts-visit tenants before after visited is kept parts maps x stands =
     ap (λ m. visit (contents_in m) x.sharing) (sym stands.memory.maps) ∙ ap (λ s. visit (contents_in before.maps) s) (sym stands.memory.sharing) ∙ is in
     (record x { sharing = after.sharing }, shared tenants before after x stands kept parts maps, (visited, (after.sharing, here, (refl, refl))), tt)
 
--- counters that are told
+-- counters that are reported
 pub hosts-counters : (tenants : List TenantView) (memory : MemoryState)
     → Hosts (record { tenants = tenants; memory = memory }) Counters (AreCounters (counters_of (length memory.arena) (contents_in memory.maps) memory.sharing)) (record { tenants = tenants; memory = memory })
 hosts-counters tenants memory x stands =
@@ -105,10 +106,10 @@ leads-unmerge tenants before after enough is kept parts maps x stands =
 
 -- too few frames for that
 unmerge_refused : (x : System) (sharing : Sharing) (have : ℕ) (refusal : Fault) → sharing ≡ x.sharing → have ≡ have_in x → RefusesUnmerge sharing have refusal → UnmergeHappens x (Refused refusal) x
-unmerge_refused x sharing have (fault.NoFrames need told) is there (needs, tells, less) =
+unmerge_refused x sharing have (fault.NoFrames need into_reply) is there (needs, says, less) =
     let need_is : need ≡ unmerge_need x.sharing = needs ∙ ap unmerge_need is in
-    let told_is : told ≡ have_in x = tells ∙ there in
-    inl (rw (sym need_is, sym told_is) less, (rw (need_is, told_is) refl, refl))
+    let answered_is : into_reply ≡ have_in x = says ∙ there in
+    inl (rw (sym need_is, sym answered_is) less, (rw (need_is, answered_is) refl, refl))
 unmerge_refused x sharing have refusal is there refuses = absurd refuses
 
 pub leads-unmerge_refused : (tenants : List TenantView) (before after : MemoryState) (refusal : Fault) → RefusesUnmerge before.sharing (have_of before) refusal → after ≡ before
@@ -119,11 +120,11 @@ leads-unmerge_refused tenants before after refusal refuses is x stands = (
   unmerge_refused x before.sharing (have_of before) refusal stands.memory.sharing (have_stands before x stands.memory) refuses,
 )
 
--- an unmerging whose answer is told
+-- an unmerging whose answer is reported
 pub hosts-unmerge : (old new : HostView) (event : Event) (reply : Reply) (answer : Result Reply Fault) → event ≡ Unmerge → reply ≡ reply_of answer → Leads old (Unmerges (reply_of answer)) new → Hosts old event reply new
-hosts-unmerge old new event reply answer named told leads x stands =
+hosts-unmerge old new event reply answer named into_reply leads x stands =
     let after = leads x stands in
-    (after.0, after.1, rw (named, told) after.2, rw named tt)
+    (after.0, after.1, rw (named, into_reply) after.2, rw named tt)
 
 -- where the tenant that an event names isn't there
 missing_at : (s t : ℕ) (x : System) → ◌≡◌ {A = Option ℕ} (Some s) (Some t) → slice_get x.world t ≡ None → slice_get x.world s ≡ None

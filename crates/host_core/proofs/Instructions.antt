@@ -1,7 +1,7 @@
 -- How many instructions there are before one of them.
 use Rattle.std.proofs.Common.{◌≡◌, ◌+◌, ◌-◌, ◌<◌, ◌≤◌, ℕ, List, subst, arith}
 use Rattle.bpf_decode.specs.Text.{instructions_before, instructions_of, slots_of, IsInstruction}
-use Rattle.bpf_decode.proofs.Placing.{instructions_past, instructions_grow}
+use Rattle.bpf_decode.proofs.Numbering.{instructions_past, instructions_grow}
 
 -- an instruction is one of those of the text
 pub instructions_before-within : (text : List ℕ) (slot : ℕ) → IsInstruction text slot → instructions_before text slot < instructions_of text

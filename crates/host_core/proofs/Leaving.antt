@@ -10,7 +10,7 @@ use Rattle.host_types.specs.declared.fault.Fault.{Fault}
 use Rattle.host_types.specs.declared.fault.Fault.TheVariants.{NoMap, Busy, NoProgram, BadTenant, InUse}
 use Rattle.host_types.specs.declared.shape.Shape.{Shape}
 use Rattle.host_types.specs.Memory.{FlatMap, FlatMaps, map_at}
-use Rattle.host_types.specs.Pages.{map_place}
+use Rattle.host_types.specs.Pages.{map_index_of}
 use Rattle.host_types.specs.Sharing.{Sharing}
 use Rattle.host_types.specs.Tenant.{TenantPart, AreFlatMaps, part_dropped}
 use Rattle.host_types.specs.Visits.{dropped}
@@ -22,12 +22,12 @@ use Rattle.verifier.specs.Subject.{Subject}
 use Rattle.verifier.specs.Verified.{Accepted, IsVerified}
 use Rattle.verifier.proofs.NamedMaps.{named_shape}
 use Rattle.interp.specs.Fits.{HaveShapes}
-use Rattle.host_core.specs.declared.event.Event.TheVariants.{Unload, DropMap}
-use Rattle.host_core.specs.declared.event.Reply.TheVariants.{Done, Refused}
+use Rattle.host_types.specs.declared.event.Event.TheVariants.{Unload, DropMap}
+use Rattle.host_core.specs.declared.reply.Reply.TheVariants.{Done, Refused}
 use Rattle.host_core.specs.World.{Tenant, System, names_there, is_used, owned_by, program_at}
 use Rattle.host_core.specs.Happens.{unload_refusal, drop_refusal, changed_system}
 use Rattle.host_core.specs.HostView.{TenantView, EachProgram, StandsForTenant, IsKept, IsServed, names_in}
-use Rattle.host_core.proofs.Places.{list_any-map, map-set, none-at}
+use Rattle.host_core.proofs.EntryIndices.{list_any-map, map-set, none-at}
 use Rattle.host_core.proofs.Worlds.{OfTenant-there, RefusedOr-refused, RefusedOr-else}
 use Rattle.host_core.proofs.Systems.{part_stands, many_stands, changed_stands}
 use Rattle.host_core.proofs.Serving.{HasKept, is_some-run, served-same, still_idle, with_named_maps}
@@ -70,10 +70,10 @@ module _ (t k : ℕ) (old : TenantView) (memory : MemoryState) where
       let Fitting : Accepted → Type 0 = λ a. HaveShapes (named_shapes a.subject) tenant.maps in
       record {
         programs = ap (λ programs. set programs k None) stands.programs ∙ sym (map-set (option_map (λ (a : Accepted). a.subject)) old.programs k None);
-        verified = All-set (λ place. IfSome place IsVerified) old.programs k None tt stands.verified;
-        shapes = All-set (λ place. IfSome place Fitting) old.programs k None tt stands.shapes;
+        verified = All-set (λ entry_index. IfSome entry_index IsVerified) old.programs k None tt stands.verified;
+        shapes = All-set (λ entry_index. IfSome entry_index Fitting) old.programs k None tt stands.shapes;
         run = run-closed old.programs (set old.programs k None) old.run tenant.run idle stands.run;
-        meets = record { maps = stands.meets.maps; places = length-set tenant.programs k None ∙ stands.meets.places; run = stands.meets.run; same = stands.meets.same };
+        fulfils = record { maps = stands.fulfils.maps; entry_indices = length-set tenant.programs k None ∙ stands.fulfils.entry_indices; run = stands.fulfils.run; same = stands.fulfils.same };
       }
 
   pub unload-done : (v : Accepted) → is_some old.run ≡ false → accepted_at old k ≡ Some v → ReadsAs memory → IsServed t old memory (Unload t k) Done (record old { programs = set old.programs k None }) memory
@@ -85,7 +85,7 @@ module _ (t k : ℕ) (old : TenantView) (memory : MemoryState) where
         next,
         x.sharing,
         unloaded_stands tenant idle stands,
-        changed_stands memory memory x t tenant next x.sharing x.sharing holds there refl refl reads stands.meets.maps.eight (part_stands memory x t tenant holds there) (λ j other. refl) holds.sharing,
+        changed_stands memory memory x t tenant next x.sharing x.sharing holds there refl refl reads stands.fulfils.maps.eight (part_stands memory x t tenant holds there) (λ j other. refl) holds.sharing,
         OfTenant-there x t Done x' _ tenant there (RefusedOr-else (unload_refusal tenant k) x Done x' _ none (refl, refl)),
         tt,
       )
@@ -113,9 +113,9 @@ pub shape-found : (found : Option FlatMap) → is_some (option_map (λ (flat : F
 shape-found None = refl
 shape-found (Some flat) = refl
 
--- what a lent list of the places tells of a map's use
-pub lent-used : (kept : TenantView) (lent : List (Option Accepted)) (m : ℕ) {told : Bool} → lent ≡ kept.programs → told ≡ list_any (names_in m) lent → list_any (names_in m) kept.programs ≡ told
-lent-used kept lent m same tells = ap (λ programs. list_any (names_in m) programs) (sym same) ∙ sym tells
+-- what a lent list of the indices says of a map's use
+pub lent-used : (kept : TenantView) (lent : List (Option Accepted)) (m : ℕ) {into_reply : Bool} → lent ≡ kept.programs → into_reply ≡ list_any (names_in m) lent → list_any (names_in m) kept.programs ≡ into_reply
+lent-used kept lent m same says = ap (λ programs. list_any (names_in m) programs) (sym same) ∙ sym says
 
 -- both sides say the same of a map's use
 used-kept : (kept : TenantView) (tenant : Tenant) (m : ℕ) → StandsForTenant kept tenant → is_used tenant m ≡ list_any (names_in m) kept.programs
@@ -138,7 +138,7 @@ each_kept : (programs : List (Option Accepted)) (old new : FlatMaps) (m : ℕ) �
     → EachProgram (λ a. HaveShapes (named_shapes a.subject) old) programs → EachProgram (λ a. HaveShapes (named_shapes a.subject) new) programs
 each_kept programs old new m unused others have k d less = by (slice_index_or programs k d) (none-at (names_in m) programs k d unused less) (have k d less)
   where
-    by : (place : Option Accepted) → names_in m place ≡ false → IfSome place (λ a. HaveShapes (named_shapes a.subject) old) → IfSome place (λ a. HaveShapes (named_shapes a.subject) new)
+    by : (entry_index : Option Accepted) → names_in m entry_index ≡ false → IfSome entry_index (λ a. HaveShapes (named_shapes a.subject) old) → IfSome entry_index (λ a. HaveShapes (named_shapes a.subject) new)
     by None unnamed had = tt
     by (Some a) unnamed had = unnamed_kept a.subject old new m unnamed others had
 
@@ -153,7 +153,7 @@ kept-inside t kept memory (x, tenant, there, stands, holds) =
 pub record HasDropped (t : ℕ) (before after : MemoryState) (m : ℕ) : Type 0 where
   pub there : is_some (map_at (part before t).maps m) ≡ true
   pub taken : part after t ≡ part_dropped (part before t) m
-  pub sharing : after.sharing ≡ dropped before.sharing (map_place t m * 256) (pages_of_map (part before t) m)
+  pub sharing : after.sharing ≡ dropped before.sharing (map_index_of t m * 256) (pages_of_map (part before t) m)
   pub kept : HasKept t before after m
 
 -- a map that is dropped
@@ -165,12 +165,12 @@ drop-done t old before after m idle unused gone x tenant there stands holds =
     let next : Tenant = record tenant { maps = slice_set tenant.maps m None } in
     let became = gone.taken ∙ ap (λ o. part_dropped o m) owned in
     let is : part after t ≡ owned_by after.sharing t next = still_idle after t x.sharing tenant next.maps none (ap (λ (o : TenantPart). o.maps) became) (ap (λ (o : TenantPart). o.reserve) became) (ap (λ (o : TenantPart). o.running) became) in
-    let eight : length next.maps ≡ 8 = length-set tenant.maps m None ∙ stands.meets.maps.eight in
+    let eight : length next.maps ≡ 8 = length-set tenant.maps m None ∙ stands.fulfils.maps.eight in
     let flat : AreFlatMaps next.maps = subst (λ (o : TenantPart). AreFlatMaps o.maps) is (gone.kept.flat (ap (λ (o : TenantPart). length o.maps) is ∙ eight)) in
     let others : (j : ℕ) → j ≢ m → map_at next.maps j ≡ map_at tenant.maps j = subst (λ o. AreMapsKeptBut m o (owned_by after.sharing t next)) owned (subst (λ o. AreMapsKeptBut m (part before t) o) is gone.kept.other_maps) in
-    let sharing : Sharing = dropped x.sharing (map_place t m * 256) (pages_of_map (owned_by x.sharing t tenant) m) in
+    let sharing : Sharing = dropped x.sharing (map_index_of t m * 256) (pages_of_map (owned_by x.sharing t tenant) m) in
     let shares : after.sharing ≡ sharing =
-    gone.sharing ∙ ap (λ o. dropped before.sharing (map_place t m * 256) (pages_of_map o m)) owned ∙ ap (λ s. dropped s (map_place t m * 256) (pages_of_map (owned_by x.sharing t tenant) m)) holds.sharing in
+    gone.sharing ∙ ap (λ o. dropped before.sharing (map_index_of t m * 256) (pages_of_map o m)) owned ∙ ap (λ s. dropped s (map_index_of t m * 256) (pages_of_map (owned_by x.sharing t tenant) m)) holds.sharing in
     let found : is_some (map_at tenant.maps m) ≡ true = subst (λ (o : TenantPart). is_some (map_at o.maps m) ≡ true) owned gone.there in
     let x' : System = changed_system x t next sharing in
     let allowed = drop_refusal-none tenant m none found (used-kept old tenant m stands ∙ unused) in (

@@ -1,4 +1,4 @@
-pub mod Places
+pub mod EntryIndices
 pub mod Worlds
 pub mod Memories
 pub mod Systems

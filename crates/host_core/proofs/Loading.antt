@@ -23,37 +23,37 @@ use Rattle.verifier.proofs.NamedMaps.{asked_shape}
 use Rattle.interp.specs.Fits.{HaveShapes}
 use Rattle.host_calls.specs.Programs.{IsJudgement, shapes_of, subject_of}
 use Rattle.host_calls.proofs.ShapesRead.{shape_of_map}
-use Rattle.host_core.specs.declared.event.Event.TheVariants.{Load}
-use Rattle.host_core.specs.declared.event.Reply.TheVariants.{Program, Refused}
+use Rattle.host_types.specs.declared.event.Event.TheVariants.{Load}
+use Rattle.host_core.specs.declared.reply.Reply.TheVariants.{Program, Refused}
 use Rattle.host_core.specs.declared.tenant.OpenRun.{OpenRun as KeptRun}
-use Rattle.host_core.specs.World.{OpenRun, Tenant, System, free_place, owned_by}
+use Rattle.host_core.specs.World.{OpenRun, Tenant, System, free_program, owned_by}
 use Rattle.host_core.specs.Happens.{LoadHappens, load_refusal, is_context_size, changed_system}
 use Rattle.host_core.specs.HostView.{TenantView, StandsForAnyRun, StandsForTenant, IsServed}
-use Rattle.host_core.proofs.Places.{first_free-map, map-set}
+use Rattle.host_core.proofs.EntryIndices.{first_free-map, map-set}
 use Rattle.host_core.proofs.Worlds.{OfTenant-there, RefusedOr-refused, RefusedOr-else}
 use Rattle.host_core.proofs.Systems.{part_stands, changed_stands}
 use Rattle.host_core.proofs.Serving.{is_some-run, served-same}
 
--- behind a list nothing is there
+-- after a list nothing is there
 padded-at : (shapes : List (Option Shape)) (m : ℕ) → slice_index_or (padded shapes) m None ≡ slice_index_or shapes m None
-padded-at shapes m = behind shapes (8 - length shapes) m
+padded-at shapes m = following shapes (8 - length shapes) m
   where
     nowhere : (n m : ℕ) → slice_index_or (replicate {A = Option Shape} n None) m None ≡ None
     nowhere zero m = refl
     nowhere (suc n) zero = refl
     nowhere (suc n) (suc m) = nowhere n m
 
-    behind : (shapes : List (Option Shape)) (n m : ℕ) → slice_index_or (shapes ++ replicate n None) m None ≡ slice_index_or shapes m None
-    behind [] n m = nowhere n m
-    behind (shape ∷ shapes) n zero = refl
-    behind (shape ∷ shapes) n (suc m) = behind shapes n m
+    following : (shapes : List (Option Shape)) (n m : ℕ) → slice_index_or (shapes ++ replicate n None) m None ≡ slice_index_or shapes m None
+    following [] n m = nowhere n m
+    following (shape ∷ shapes) n zero = refl
+    following (shape ∷ shapes) n (suc m) = following shapes n m
 
 -- a map of a shape
 shaped : (found : Option FlatMap) (shape : Shape) → option_map (λ (flat : FlatMap). flat.shape) found ≡ Some shape → IsSomeAnd found (λ (flat : FlatMap). flat.shape ≡ shape)
 shaped None shape e = absurd (cc)
 shaped (Some flat) shape e = cc
 
--- a tenant has the maps that a program names which is judged with their shapes
+-- a tenant has the maps that a program names which is verified with their shapes
 have_named : (owned : TenantPart) (text : List ℕ) (size : ℕ) → HaveShapes (named_shapes (subject_of owned text size)) owned.maps
 have_named owned text size m = by (slice_index_or (named_shapes (subject_of owned text size)) m None) refl
   where
@@ -61,21 +61,21 @@ have_named owned text size m = by (slice_index_or (named_shapes (subject_of owne
     by None e = tt
     by (Some shape) e =
         let there : slice_index_or (padded (shapes_of owned.maps)) m None ≡ Some shape = asked_shape (subject_of owned text size) m shape e in
-        let told : option_map (λ (flat : FlatMap). flat.shape) (map_at owned.maps m) ≡ Some shape = sym (shape_of_map owned.maps m) ∙ sym (padded-at (shapes_of owned.maps) m) ∙ there in
-        shaped (map_at owned.maps m) shape told
+        let into_reply : option_map (λ (flat : FlatMap). flat.shape) (map_at owned.maps m) ≡ Some shape = sym (shape_of_map owned.maps m) ∙ sym (padded-at (shapes_of owned.maps) m) ∙ there in
+        shaped (map_at owned.maps m) shape into_reply
 
--- the first of the places where a host keeps no program
+-- the first of the indices where a host keeps no program
 abbrev pub first_free_of : TenantView → Option ℕ
-first_free_of kept = position (λ (place : Option Accepted). is_none place) kept.programs
+first_free_of kept = position (λ (entry_index : Option Accepted). is_none entry_index) kept.programs
 
--- what a lent list of the places tells of them
-pub lent-free : (kept : TenantView) (lent : List (Option Accepted)) (told : Option ℕ) → lent ≡ kept.programs → told ≡ position (λ (place : Option Accepted). is_none place) lent → first_free_of kept ≡ told
-lent-free kept lent told same tells = ap (λ programs. position (λ (place : Option Accepted). is_none place) programs) (sym same) ∙ sym tells
+-- what a lent list of the indices says of them
+pub lent-free : (kept : TenantView) (lent : List (Option Accepted)) (into_reply : Option ℕ) → lent ≡ kept.programs → into_reply ≡ position (λ (entry_index : Option Accepted). is_none entry_index) lent → first_free_of kept ≡ into_reply
+lent-free kept lent into_reply same says = ap (λ programs. position (λ (entry_index : Option Accepted). is_none entry_index) programs) (sym same) ∙ sym says
 
--- the same place is the first that is free
-free_place-kept : (kept : TenantView) (tenant : Tenant) → StandsForTenant kept tenant → free_place tenant ≡ first_free_of kept
-free_place-kept kept tenant stands =
-    ap (λ programs. position (λ (place : Option Subject). is_none place) programs) stands.programs ∙ first_free-map (λ (v : Accepted). v.subject) kept.programs
+-- the same index is the first that is free
+free_program-kept : (kept : TenantView) (tenant : Tenant) → StandsForTenant kept tenant → free_program tenant ≡ first_free_of kept
+free_program-kept kept tenant stands =
+    ap (λ programs. position (λ (entry_index : Option Subject). is_none entry_index) programs) stands.programs ∙ first_free-map (λ (v : Accepted). v.subject) kept.programs
 
 -- a size that a context may have passes the test
 pub size-fits : (size : ℕ) → IsContextSize size → is_context_size size ≡ true
@@ -98,15 +98,15 @@ load_refusal-busy : (tenant : Tenant) (size : ℕ) → is_some tenant.run ≡ tr
 load_refusal-busy tenant size busy = rw busy refl
 
 -- a load of a ninth program
-load_refusal-full : (tenant : Tenant) (size : ℕ) → is_some tenant.run ≡ false → free_place tenant ≡ None → load_refusal tenant size ≡ Some TooManyPrograms
+load_refusal-full : (tenant : Tenant) (size : ℕ) → is_some tenant.run ≡ false → free_program tenant ≡ None → load_refusal tenant size ≡ Some TooManyPrograms
 load_refusal-full tenant size idle full = rw (idle, full) refl
 
 -- a load for contexts of no such size
-load_refusal-size : (tenant : Tenant) (size k : ℕ) → is_some tenant.run ≡ false → free_place tenant ≡ Some k → is_context_size size ≡ false → load_refusal tenant size ≡ Some BadContext
+load_refusal-size : (tenant : Tenant) (size k : ℕ) → is_some tenant.run ≡ false → free_program tenant ≡ Some k → is_context_size size ≡ false → load_refusal tenant size ≡ Some BadContext
 load_refusal-size tenant size k idle room odd = rw (idle, room, odd) refl
 
 -- a load that nothing forbids
-load_refusal-none : (tenant : Tenant) (size k : ℕ) → is_some tenant.run ≡ false → free_place tenant ≡ Some k → is_context_size size ≡ true → load_refusal tenant size ≡ None
+load_refusal-none : (tenant : Tenant) (size k : ℕ) → is_some tenant.run ≡ false → free_program tenant ≡ Some k → is_context_size size ≡ true → load_refusal tenant size ≡ None
 load_refusal-none tenant size k idle room fits = rw (idle, room, fits) refl
 
 -- no open run, whatever the programs are
@@ -134,11 +134,11 @@ module _ (t : ℕ) (old : TenantView) (memory : MemoryState) (text : List ℕ) (
     pub load-full : first_free_of old ≡ None → IsServed t old memory (Load t text size) (Refused TooManyPrograms) old memory
     load-full full =
         load-refused TooManyPrograms (λ tenant stands.
-        load_refusal-full tenant size (none-open tenant stands) (free_place-kept old tenant stands ∙ full))
+        load_refusal-full tenant size (none-open tenant stands) (free_program-kept old tenant stands ∙ full))
 
     module _ (k : ℕ) (room : first_free_of old ≡ Some k) where
-      room-left : (tenant : Tenant) → StandsForTenant old tenant → free_place tenant ≡ Some k
-      room-left tenant stands = free_place-kept old tenant stands ∙ room
+      room-left : (tenant : Tenant) → StandsForTenant old tenant → free_program tenant ≡ Some k
+      room-left tenant stands = free_program-kept old tenant stands ∙ room
 
       -- a load for contexts of no such size
       pub load-size : (IsContextSize size → ⊥) → IsServed t old memory (Load t text size) (Refused BadContext) old memory
@@ -159,10 +159,10 @@ module _ (t : ℕ) (old : TenantView) (memory : MemoryState) (text : List ℕ) (
             (OfTenant-there x t (Refused f) x _ tenant there (RefusedOr-else (load_refusal tenant size) x (Refused f) x _ (allowed tenant stands) (happens x tenant owned)), tt))
 
         -- a text that isn't accepted
-        pub load-judged : (f : Fault) → IsJudgement (subject_of (part memory t) text size) f → IsServed t old memory (Load t text size) (Refused f) old memory
-        load-judged f (inl (lacks, well)) = load-tried f (λ x tenant owned. LoadHappens.lacking well (ap Refused lacks, refl))
-        load-judged f (inr (refusal, is, inl malformed)) = load-tried f (λ x tenant owned. LoadHappens.malformed refusal malformed (ap Refused is, refl))
-        load-judged f (inr (refusal, is, inr (well, unlawful))) =
+        pub load-verdict : (f : Fault) → IsJudgement (subject_of (part memory t) text size) f → IsServed t old memory (Load t text size) (Refused f) old memory
+        load-verdict f (inl (lacks, well)) = load-tried f (λ x tenant owned. LoadHappens.refusal_or_out_of_memory well (ap Refused lacks, refl))
+        load-verdict f (inr (refusal, is, inl malformed)) = load-tried f (λ x tenant owned. LoadHappens.malformed refusal malformed (ap Refused is, refl))
+        load-verdict f (inr (refusal, is, inr (well, unlawful))) =
             load-tried f (λ x tenant owned. LoadHappens.unlawful well refusal (subst (λ o. IsRefusal (subject_of o text size) refusal) owned unlawful) (ap Refused is, refl))
 
         -- a tenant with one more program
@@ -178,10 +178,10 @@ module _ (t : ℕ) (old : TenantView) (memory : MemoryState) (text : List ℕ) (
             ap (λ q. set (subjects old.programs) k (Some q)) same ∙ sym (map-set (option_map (λ (a : Accepted). a.subject)) old.programs k (Some v)) in
             record {
               programs = ap (λ programs. set programs k (Some p)) stands.programs ∙ listed;
-              verified = All-set (λ place. IfSome place IsVerified) old.programs k (Some v) verified stands.verified;
-              shapes = All-set (λ place. IfSome place Fitting) old.programs k (Some v) have stands.shapes;
+              verified = All-set (λ entry_index. IfSome entry_index IsVerified) old.programs k (Some v) verified stands.verified;
+              shapes = All-set (λ entry_index. IfSome entry_index Fitting) old.programs k (Some v) have stands.shapes;
               run = run-closed old.programs (set old.programs k (Some v)) old.run tenant.run idle stands.run;
-              meets = record { maps = stands.meets.maps; places = length-set tenant.programs k (Some p) ∙ stands.meets.places; run = stands.meets.run; same = stands.meets.same };
+              fulfils = record { maps = stands.fulfils.maps; entry_indices = length-set tenant.programs k (Some p) ∙ stands.fulfils.entry_indices; run = stands.fulfils.run; same = stands.fulfils.same };
             }
 
         -- a text that is accepted
@@ -199,7 +199,7 @@ module _ (t : ℕ) (old : TenantView) (memory : MemoryState) (text : List ℕ) (
               next,
               x.sharing,
               loaded_stands v x.sharing tenant owned is verified stands,
-              changed_stands memory memory x t tenant next x.sharing x.sharing holds there refl refl reads stands.meets.maps.eight owned (λ j other. refl) holds.sharing,
+              changed_stands memory memory x t tenant next x.sharing x.sharing holds there refl refl reads stands.fulfils.maps.eight owned (λ j other. refl) holds.sharing,
               OfTenant-there x t reply x' _ tenant there (RefusedOr-else (load_refusal tenant size) x reply x' _ (allowed tenant stands) happens),
               tt,
             )

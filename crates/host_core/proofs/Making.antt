@@ -2,15 +2,15 @@
 use Rattle.std.proofs.Common.{◌≡◌, ℕ, ◌+◌, ◌<◌, ◌≤◌, List, [], ◌∷◌, ◌++◌, replicate, Option, Some, None, is_some, true, false, sym, ap, refl, ◌∙◌, subst, arith}
 use Rattle.std.proofs.lemmas.List.{replicate-append-replicate, append_assoc}
 use Rattle.page_table.specs.State.{MemoryState}
-use Rattle.host_core.specs.declared.event.Event.{Event}
-use Rattle.host_core.specs.declared.event.Event.TheVariants.{Step}
-use Rattle.host_core.specs.declared.event.Reply.{Reply}
-use Rattle.host_core.specs.declared.event.Reply.TheVariants.{Stepped}
+use Rattle.host_types.specs.declared.event.Event.{Event}
+use Rattle.host_types.specs.declared.event.Event.TheVariants.{Step}
+use Rattle.host_core.specs.declared.reply.Reply.{Reply}
+use Rattle.host_core.specs.declared.reply.Reply.TheVariants.{Stepped}
 use Rattle.host_core.specs.World.{Tenant, System}
 use Rattle.host_core.specs.Happens.{Happens, IsPromised, AllHappen, AreSteps, changed_system}
 use Rattle.host_core.specs.HostView.{TenantView, StandsForTenant, StandsForMemory, StandsForAnyRun, IsKept, IsServed, HasMadeSteps, HasCounted, steps_of}
 use Rattle.host_core.proofs.Joined.{AllHappen-join}
-use Rattle.bpf_decode.proofs.Placing.{instructions_fit}
+use Rattle.bpf_decode.proofs.Numbering.{instructions_fit}
 use Rattle.host_core.specs.declared.tenant.OpenRun.{OpenRun as KeptRun}
 use Rattle.host_core.proofs.Stepping.{run-found, verified-at}
 use Rattle.host_core.proofs.Worlds.{changed_system-same, changed_system-twice, slice_get-set}
@@ -44,7 +44,7 @@ kept-made t limit old new before after last made (x, tenant, there, s, memory) =
 replicated : {X : Type 0} (n k : ℕ) (one last : X) → replicate n one ++ (replicate k one ++ last ∷ []) ≡ replicate (n + k) one ++ last ∷ []
 replicated n k one last = sym (append_assoc (replicate n one) (replicate k one) (last ∷ [])) ∙ ap (λ xs. xs ++ last ∷ []) (replicate-append-replicate n k one)
 
--- steps that were made behind others
+-- steps that were made after others
 steps-join : (t n k : ℕ) (last : Option Reply) (events more : List Event) (replies further : List Reply) → AreSteps t n None events replies → AreSteps t k last more further → AreSteps t (n + k) last (events ++ more) (replies ++ further)
 steps-join t n k None events more replies further (steps, all) (next, rest) =
     (rw (steps, next) (replicate-append-replicate n k (Step t)), rw (all, rest) (replicate-append-replicate n k Stepped))
@@ -57,7 +57,7 @@ pub made-join : (t n k : ℕ) (one two three : TenantView) (before between after
 made-join t n k one two three before between after last first second x tenant there s memory =
     let (next, sharing, stands, memory', (events, replies, steps, all)) = first x tenant there s memory in
     let x' = changed_system x t next sharing in
-    let (next', sharing', stands', memory'', (more, further, rest, behind)) = second x' next (slice_get-set x.world t tenant next there) stands memory' in
+    let (next', sharing', stands', memory'', (more, further, rest, following)) = second x' next (slice_get-set x.world t tenant next there) stands memory' in
     let same = changed_system-twice x t next next' sharing sharing' in (
       next',
       sharing',
@@ -67,7 +67,7 @@ made-join t n k one two three before between after last first second x tenant th
         events ++ more,
         replies ++ further,
         steps-join t n k last events more replies further steps rest,
-        subst (AllHappen x (events ++ more) (replies ++ further)) same (AllHappen-join x x' (changed_system x' t next' sharing') events more replies further all behind),
+        subst (AllHappen x (events ++ more) (replies ++ further)) same (AllHappen-join x x' (changed_system x' t next' sharing') events more replies further all following),
       ),
     )
 

@@ -1,4 +1,4 @@
--- A memory's parts, and the maps of all tenants one behind the other.
+-- A memory's parts, and the maps of all tenants one after the other.
 use Rattle.std.proofs.Common.{◌≡◌, ℕ, zero, suc, ◌+◌, ◌*◌, ◌<◌, Bool, false, List, [], ◌∷◌, ◌++◌, take, drop, length, get_or, Option, None, Some, is_some, IsNone, sym, ap, refl, ◌∙◌, subst, arith}
 use Rattle.std.specs.List.{slice_get, All}
 use Rattle.std.specs.Option.{option_map}
@@ -15,14 +15,14 @@ use Rattle.page_table.specs.State.{MemoryState, part, unreserved_tenant}
 use Rattle.host_core.specs.World.{OpenRun, Tenant, World, all_maps, pins_of, reserve_of, owned_by, new_tenant}
 use Rattle.host_core.specs.HostView.{recorded_of, recorded_in}
 
--- the tenant has its eight places for maps
+-- the tenant has its eight entries for maps
 abbrev pub IsEight : Tenant → Type 0
 IsEight tenant = length tenant.maps ≡ 8
 
 first_eight : (a : Tenant) (w : World) → All IsEight (a ∷ w) → length a.maps ≡ 8
 first_eight a w eight = eight 0 a (omega arith)
 
--- a tenant's maps stand behind those of the tenants before it
+-- a tenant's maps stand after those of the tenants before it
 pub part_all : (w : World) (t : ℕ) (tenant : Tenant) → All IsEight w → slice_get w t ≡ Some tenant → part_of (all_maps w) (t * 8) 8 ≡ tenant.maps
 unfolding part_of
 part_all [] t tenant eight there = absurd (cc)
@@ -34,10 +34,10 @@ part_all (a ∷ w) zero tenant eight there =
 part_all (a ∷ w) (suc t) tenant eight there =
     let skipped : drop (length a.maps + t * 8) (a.maps ++ all_maps w) ≡ drop (t * 8) (all_maps w) = drop-append-add a.maps (all_maps w) (t * 8) in
     let next : suc t * 8 ≡ 8 + t * 8 = omega arith in
-    let behind : drop (8 + t * 8) (a.maps ++ all_maps w) ≡ drop (t * 8) (all_maps w) = subst (λ n. drop (n + t * 8) (a.maps ++ all_maps w) ≡ drop (t * 8) (all_maps w)) (first_eight a w eight) skipped in
-    ap (λ n. take 8 (drop n (a.maps ++ all_maps w))) next ∙ ap (take 8) behind ∙ part_all w t tenant (All-tail IsEight a w eight) there
+    let following : drop (8 + t * 8) (a.maps ++ all_maps w) ≡ drop (t * 8) (all_maps w) = subst (λ n. drop (n + t * 8) (a.maps ++ all_maps w) ≡ drop (t * 8) (all_maps w)) (first_eight a w eight) skipped in
+    ap (λ n. take 8 (drop n (a.maps ++ all_maps w))) next ∙ ap (take 8) following ∙ part_all w t tenant (All-tail IsEight a w eight) there
 
--- as many places as eight for each tenant
+-- as many indices as eight for each tenant
 pub length_all : (w : World) → All IsEight w → length (all_maps w) ≡ length w * 8
 length_all [] eight = refl
 length_all (a ∷ w) eight =
@@ -75,14 +75,14 @@ same_eights (suc n) xs ys lx ly same =
     let rest : drop 8 xs ≡ drop 8 ys = same_eights n (drop 8 xs) (drop 8 ys) dx dy (λ t less. later t (omega (arith, less))) in
     sym (take-append-drop 8 xs) ∙ ap (λ part. part ++ drop 8 xs) first ∙ ap (λ part. take 8 ys ++ part) rest ∙ take-append-drop 8 ys
   where
-    behind : (zs : FlatMaps) (k : ℕ) → drop k (drop 8 zs) ≡ drop (8 + k) zs
-    behind zs k = dropped zs 8 k
+    following : (zs : FlatMaps) (k : ℕ) → drop k (drop 8 zs) ≡ drop (8 + k) zs
+    following zs k = dropped zs 8 k
 
     later : (t : ℕ) → suc t < suc n → part_of (drop 8 xs) (t * 8) 8 ≡ part_of (drop 8 ys) (t * 8) 8
     later t less =
         let next : suc t * 8 ≡ 8 + t * 8 = omega arith in
         let there : take 8 (drop (8 + t * 8) xs) ≡ take 8 (drop (8 + t * 8) ys) = subst (λ n. take 8 (drop n xs) ≡ take 8 (drop n ys)) next (same (suc t) less) in
-        ap (take 8) (behind xs (t * 8)) ∙ there ∙ ap (take 8) (sym (behind ys (t * 8)))
+        ap (take 8) (following xs (t * 8)) ∙ there ∙ ap (take 8) (sym (following ys (t * 8)))
 
 -- ---- what is recorded of the tenants
 

@@ -15,7 +15,7 @@ use Rattle.interp.specs.declared.need.Need.{Need}
 use Rattle.interp.specs.declared.need.Need.TheVariants.{Private, Ended, Load, Store, Lookup, Update, Delete}
 use Rattle.interp.specs.Machine.{MachineState, Next, step}
 use Rattle.interp.specs.StandsFor.{Running, Asks, Follows, IsNoMore}
-use Rattle.tenant_runs.specs.Meeting.{sharing_met}
+use Rattle.tenant_runs.specs.Fulfilment.{sharing_fulfilled}
 use Rattle.tenant_runs.specs.UnderWay.{IsUnderWay, IsAsking, part_with_have}
 use Rattle.host_core.specs.declared.tenant.OpenRun.{OpenRun as KeptRun}
 use Rattle.host_core.specs.Happens.{sharing_after}
@@ -46,19 +46,19 @@ step_asking programs kept v s t need run before under asks =
     }
 
 -- a step that asks nothing leaves no more to be needed
-needed_behind : (programs : List (Option Accepted)) (kept : KeptRun) (v : Accepted) (s next : MachineState) (t : ℕ) (before : MemoryState)
+needed_following : (programs : List (Option Accepted)) (kept : KeptRun) (v : Accepted) (s next : MachineState) (t : ℕ) (before : MemoryState)
     → IsUnderWayAt programs kept v s (part before t) → IsNoMore v s next → needed_from v (part before t) next.slot ≤ (part before t).reserve
-needed_behind programs kept v s next t before under less =
+needed_following programs kept v s next t before under less =
     let falls : needed_from v (part before t) next.slot ≤ needed_from v (part before t) s.slot =
     needed_falls (reserve_from v s.slot) (reserve_from v next.slot) (writes_from v s.slot) (writes_from v next.slot) (part before t) less.reserve less.fewer in
     let reserve = under.reserve in
     omega (arith, falls, reserve)
 
 -- so what is recorded needs to be lowered alone
-pub step_behind : (programs : List (Option Accepted)) (kept : KeptRun) (v : Accepted) (s : MachineState) (t : ℕ) (run : Running) (before : MemoryState)
+pub step_following : (programs : List (Option Accepted)) (kept : KeptRun) (v : Accepted) (s : MachineState) (t : ℕ) (run : Running) (before : MemoryState)
     → IsUnderWayAt programs kept v s (part before t) → Follows v s Private run → needed_from v (part before t) run.slot ≤ (part before t).reserve
-step_behind programs kept v s t run before under (next, makes, maps, quiet, less, stands) =
-    subst (λ slot. needed_from v (part before t) slot ≤ (part before t).reserve) (sym stands.slot) (needed_behind programs kept v s next t before under less)
+step_following programs kept v s t run before under (next, makes, maps, quiet, less, stands) =
+    subst (λ slot. needed_from v (part before t) slot ≤ (part before t).reserve) (sym stands.slot) (needed_following programs kept v s next t before under less)
 
 -- and where nothing is reserved, nothing has to be
 pub none_left : (owned : TenantPart) (n : ℕ) → n ≤ owned.reserve → owned.reserve ≡ 0 → owned ≡ with_reserve n owned
@@ -70,7 +70,7 @@ pub step_private : (programs : List (Option Accepted)) (kept : KeptRun) (v : Acc
     → part after t ≡ with_reserve (needed_from v (part before t) run.slot) (part before t) → after.sharing ≡ before.sharing
     → HasAdvanced v s t 1 kept.run before None run after
 step_private programs kept v s t run before after under reads (next, makes, maps, quiet, less, stands) counted recorded sharing =
-    let behind = needed_behind programs kept v s next t before under less in
+    let following = needed_following programs kept v s next t before under less in
     let mine : needed_in v t before.sharing s ≡ (part before t).reserve = sym (needed_of_part v t before s under.maps) ∙ sym under.reserve in
     let left : needed_in v t before.sharing next ≡ needed_from v (part before t) next.slot = sym (needed_of_part v t before next (under.maps ∙ sym maps)) in
     let most : reserved_of before ≤ free_of before = reads.reserved in
@@ -89,7 +89,7 @@ step_private programs kept v s t run before after under reads (next, makes, maps
         maps = maps;
         shares = ap (sharing_after before.sharing t) (sym quiet);
         others = λ k other. refl;
-        enough = omega (arith, behind, mine, left, most);
+        enough = omega (arith, following, mine, left, most);
       },
     ) in (
       1,
@@ -117,7 +117,7 @@ step_ended programs kept v s t number run before after under (makes, few) counte
 pub step_answered : (programs : List (Option Accepted)) (kept : KeptRun) (v : Accepted) (s : MachineState) (t : ℕ) (need : Need) (run after_run : Running) (before after : MemoryState)
     → IsUnderWayAt programs kept v s (part before t) → Asks v s need run → run.steps ≡ kept.run.steps + 1
     → ((u : MachineState) → IsAsking v u need run (part_with_have before t) → (next : MachineState) × (step v.subject.text u ≡ Some (Next next)) × IsUnderWay v after_run next (part after t))
-    → (part after t).reserve ≡ needed_from v (part after t) run.slot → after_run.steps ≡ run.steps → after.sharing ≡ sharing_met (part before t) before.sharing t need
+    → (part after t).reserve ≡ needed_from v (part after t) run.slot → after_run.steps ≡ run.steps → after.sharing ≡ sharing_fulfilled (part before t) before.sharing t need
     → HasAdvanced v s t 1 kept.run before None after_run after
 step_answered programs kept v s t need run after_run before after under asks counted goes reserve steps sharing = (
   1,

@@ -7,7 +7,7 @@ use Rattle.host_types.specs.declared.fault.Fault.{Fault}
 use Rattle.host_types.specs.declared.fault.Fault.TheVariants.{NoFrames, Busy, NoProgram, BadContext, OutOfMemory}
 use Rattle.host_types.specs.Tenant.{TenantPart}
 use Rattle.bpf_decode.specs.Text.{slots_of}
-use Rattle.page_table.specs.Changes.{IsKeptBut, with_run, opened}
+use Rattle.page_table.specs.Changes.{OtherTenantsUnchanged, with_run, opened}
 use Rattle.page_table.specs.Reads.{ReadsAs}
 use Rattle.page_table.specs.State.{MemoryState, part, have_of}
 use Rattle.verifier.specs.Named.{named_shapes}
@@ -21,12 +21,12 @@ use Rattle.interp.specs.Fits.{HaveShapes}
 use Rattle.interp.specs.StandsFor.{Running, IsBegun}
 use Rattle.tenant_runs.specs.UnderWay.{RefusesOpen}
 use Rattle.tenant_runs.proofs.Rooms.{opened_keeps}
-use Rattle.host_core.specs.declared.event.Event.TheVariants.{Begin}
-use Rattle.host_core.specs.declared.event.Reply.TheVariants.{Begun, Refused}
+use Rattle.host_types.specs.declared.event.Event.TheVariants.{Begin}
+use Rattle.host_core.specs.declared.reply.Reply.TheVariants.{Begun, Refused}
 use Rattle.host_core.specs.World.{Tenant, System, program_at, begun_run, accepted_of, pins_of, owned_by, have_in}
 use Rattle.host_core.specs.Happens.{BeginHappens, Leaves, MayLackFrames, MayLackMemory, begin_refusal, changed_system}
 use Rattle.host_core.specs.HostView.{TenantView, EachProgram, StandsForTenant, StandsForMemory, IsKept, IsServed}
-use Rattle.host_core.proofs.Places.{get_or-there, slice_get-there, all-at}
+use Rattle.host_core.proofs.EntryIndices.{get_or-there, slice_get-there, all-at}
 use Rattle.host_core.proofs.Worlds.{OfTenant-there, RefusedOr-refused, RefusedOr-else}
 use Rattle.host_core.proofs.Memories.{reserve-idle}
 use Rattle.host_core.proofs.Systems.{part_stands, have_stands, changed_stands}
@@ -42,19 +42,19 @@ accepted-tight v verified =
     let same : tight_table p ≡ v.table = ext_get_or None (tight_table p) v.table (whole ∙ sym verified.tight.whole) (λ k less. agree k (omega (arith, less, whole))) in
     ap (λ table. record { subject = p; table = table }) same
 
--- the program that a host keeps at one of a tenant's places
+-- the program that a host keeps at one of a tenant's indices
 abbrev pub accepted_at : TenantView → ℕ → Option Accepted
 accepted_at kept k = slice_index_or kept.programs k None
 
--- what a lent list of the places tells of one of them
-pub lent-at : (kept : TenantView) (lent : List (Option Accepted)) (k : ℕ) {told : Option Accepted} → lent ≡ kept.programs → told ≡ slice_index_or lent k None → accepted_at kept k ≡ told
-lent-at kept lent k same tells = ap (λ programs. slice_index_or programs k None) (sym same) ∙ sym tells
+-- what a lent list of the indices says of one of them
+pub lent-at : (kept : TenantView) (lent : List (Option Accepted)) (k : ℕ) {into_reply : Option Accepted} → lent ≡ kept.programs → into_reply ≡ slice_index_or lent k None → accepted_at kept k ≡ into_reply
+lent-at kept lent k same says = ap (λ programs. slice_index_or programs k None) (sym same) ∙ sym says
 
--- the same program is at each place
+-- the same program is at each index
 pub program_at-kept : (kept : TenantView) (tenant : Tenant) (k : ℕ) → StandsForTenant kept tenant → program_at tenant k ≡ option_map (λ (v : Accepted). v.subject) (accepted_at kept k)
 program_at-kept kept tenant k stands = ap (λ programs. slice_index_or programs k None) stands.programs ∙ get_or-there (λ (v : Accepted). v.subject) kept.programs k
 
--- what is said of each program holds of the one at a place
+-- what is said of each program holds of the one at an index
 each-at : (P : Accepted → Type 0) (kept : TenantView) (k : ℕ) (v : Accepted) → EachProgram P kept.programs → accepted_at kept k ≡ Some v → P v
 each-at P kept k v all found = all-at P kept.programs k v all (slice_get-there kept.programs k v found)
 
@@ -171,7 +171,7 @@ pub record HasAdmitted (t : ℕ) (before after : MemoryState) (v : Accepted) : T
   pub enough : needed_from v (part before t) 0 ≤ have_of before
   pub recorded : part after t ≡ with_run (needed_from v (part before t) 0) (part before t)
   pub all : after ≡ opened before t (needed_from v (part before t) 0)
-  pub others : IsKeptBut t before after
+  pub others : OtherTenantsUnchanged t before after
   pub reads : ReadsAs after
 
 -- a tenant with a run that has just begun
@@ -185,10 +185,10 @@ begun_stands k old tenant context run v found begun none_made stands = record {
     accepted = v;
     numbered = slice_get-there old.programs k v found;
     program = refl;
-    state = begun tenant.maps stands.meets.maps (each-at (λ (a : Accepted). HaveShapes (named_shapes a.subject) tenant.maps) old k v stands.shapes found);
+    state = begun tenant.maps stands.fulfils.maps (each-at (λ (a : Accepted). HaveShapes (named_shapes a.subject) tenant.maps) old k v stands.shapes found);
     steps = none_made;
   };
-  meets = record { maps = stands.meets.maps; places = stands.meets.places; run = record { reached = refl; steps = omega arith }; same = refl };
+  fulfils = record { maps = stands.fulfils.maps; entry_indices = stands.fulfils.entry_indices; run = record { reached = refl; steps = omega arith }; same = refl };
 }
 
 -- a run that begins
@@ -213,7 +213,7 @@ begin-begun t k old before after context run v idle found fits begun none_made a
       next,
       x.sharing,
       begun_stands k old tenant context run v found begun none_made stands,
-      changed_stands before after x t tenant next x.sharing x.sharing holds there sizes.tenants sizes.frames admits.reads stands.meets.maps.eight is admits.others shares,
+      changed_stands before after x t tenant next x.sharing x.sharing holds there sizes.tenants sizes.frames admits.reads stands.fulfils.maps.eight is admits.others shares,
       OfTenant-there x t Begun x' _ tenant there (RefusedOr-else (begin_refusal tenant k context) x Begun x' _ none happens),
       tt,
     )

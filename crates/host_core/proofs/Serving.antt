@@ -13,10 +13,10 @@ use Rattle.host_types.specs.declared.shape.Shape.{Shape}
 use Rattle.host_types.specs.Bytes.{with_part}
 use Rattle.host_types.specs.Helpers.{helper, element_at, update_answer, map_updated, maps_updated}
 use Rattle.host_types.specs.Memory.{FlatMap, FlatMaps, map_at}
-use Rattle.host_types.specs.Pages.{map_place}
+use Rattle.host_types.specs.Pages.{map_index_of}
 use Rattle.host_types.specs.Sharing.{Sharing}
 use Rattle.host_types.specs.Tenant.{TenantPart, AreFlatMaps}
-use Rattle.page_table.specs.Changes.{IsKeptBut, AreMapsKeptBut, KeepsSettings, part_created, with_new_pages, zero_map}
+use Rattle.page_table.specs.Changes.{OtherTenantsUnchanged, AreMapsKeptBut, KeepsSettings, part_created, with_new_pages, zero_map}
 use Rattle.page_table.specs.Limits.{page_count, shape_of}
 use Rattle.page_table.specs.Reads.{ReadsAs}
 use Rattle.page_table.specs.State.{MemoryState, part, free_number, have_of}
@@ -25,10 +25,10 @@ use Rattle.verifier.specs.Named.{named_shapes}
 use Rattle.verifier.specs.Verified.{Accepted}
 use Rattle.interp.specs.Fits.{HaveShapes}
 use Rattle.host_calls.specs.Calls.{IsThere, IsValue, lookup_refusal, new_map_refusal, or_bad_tenant, refused_lookup, refused_new_map, refused_update, update_refusal}
-use Rattle.host_core.specs.declared.event.Event.{Event}
-use Rattle.host_core.specs.declared.event.Event.TheVariants.{CreateMap, HostUpdate, HostLookup}
-use Rattle.host_core.specs.declared.event.Reply.{Reply}
-use Rattle.host_core.specs.declared.event.Reply.TheVariants.{Map, Done, Value, Refused}
+use Rattle.host_types.specs.declared.event.Event.{Event}
+use Rattle.host_types.specs.declared.event.Event.TheVariants.{CreateMap, HostUpdate, HostLookup}
+use Rattle.host_core.specs.declared.reply.Reply.{Reply}
+use Rattle.host_core.specs.declared.reply.Reply.TheVariants.{Map, Done, Value, Refused}
 use Rattle.host_core.specs.declared.tenant.OpenRun.{OpenRun as KeptRun}
 use Rattle.host_core.specs.World.{OpenRun, Tenant, System, pins_of, owned_by, have_in}
 use Rattle.host_core.specs.Happens.{CreateHappens, Happens, IsPromised, LookupHappens, RefusedOr, UpdateHappens, changed_system, create_refusal, host_update_refusal, unless_busy}
@@ -44,9 +44,9 @@ is_some-run programs None (Some r) stands = absurd stands
 is_some-run programs (Some kept) None stands = absurd stands
 is_some-run programs (Some kept) (Some r) stands = refl
 
--- what a call was told of the open run of a tenant that it sees so
-pub run_is : (old : TenantView) (programs : List (Option Accepted)) (run : Option KeptRun) (told b : Bool) → ◌≡◌ {A = TenantView} (record { programs = programs; run = run }) old → told ≡ is_some run → told ≡ b → is_some old.run ≡ b
-run_is old programs run told b seen asked is = sym (ap (λ (kept : TenantView). is_some kept.run) seen) ∙ sym asked ∙ is
+-- what a call was reported of the open run of a tenant that it sees so
+pub run_is : (old : TenantView) (programs : List (Option Accepted)) (run : Option KeptRun) (into_reply b : Bool) → ◌≡◌ {A = TenantView} (record { programs = programs; run = run }) old → into_reply ≡ is_some run → into_reply ≡ b → is_some old.run ≡ b
+run_is old programs run into_reply b seen asked is = sym (ap (λ (kept : TenantView). is_some kept.run) seen) ∙ sym asked ∙ is
 
 -- a refusal that a call passes on, and that changed nothing
 pub passed_on : (t : ℕ) (old : TenantView) (before after : MemoryState) (event : Event) (f : Fault) (result : Result Reply Fault) → IsErrAnd result (λ e. e ≡ f) → after ≡ before
@@ -77,7 +77,7 @@ served-same t old memory event reply happens x tenant there stands holds =
 
 -- a tenant that is kept is there
 pub kept-there : (t : ℕ) (kept : TenantView) (memory : MemoryState) → IsKept t kept memory → IsThere (part memory t)
-kept-there t kept memory (x, tenant, there, stands, holds) = ap (λ (o : TenantPart). length o.maps) (part_stands memory x t tenant holds there) ∙ stands.meets.maps.eight
+kept-there t kept memory (x, tenant, there, stands, holds) = ap (λ (o : TenantPart). length o.maps) (part_stands memory x t tenant holds there) ∙ stands.fulfils.maps.eight
 
 -- the map with a number is there with a shape
 abbrev HasShape : FlatMaps → ℕ → Shape → Type 0
@@ -109,7 +109,7 @@ free_shapeless owned m shape free had =
     let found = position-Some (λ (slot : Option FlatMap). is_none slot) owned.maps m None free in
     shapeless (map_at owned.maps m) shape found.1 had
 
--- a map that is put in the place of one of its shape has that shape
+-- a map that is put in place of one of its shape has that shape
 set_shape : (maps : FlatMaps) (m : ℕ) (f : FlatMap → FlatMap) (shape : Shape) → ((flat : FlatMap) → (f flat).shape ≡ flat.shape) → HasShape maps m shape
     → HasShape (slice_set maps m (option_map f (map_at maps m))) m shape
 set_shape [] m f shape same had = absurd had
@@ -134,7 +134,7 @@ with_named_maps old tenant maps idle stands flat have = record {
   verified = stands.verified;
   shapes = have;
   run = stands.run;
-  meets = record { maps = flat; places = stands.meets.places; run = stands.meets.run; same = if_idle tenant.run (λ r. maps ≡ r.state.memory.maps) idle };
+  fulfils = record { maps = flat; entry_indices = stands.fulfils.entry_indices; run = stands.fulfils.run; same = if_idle tenant.run (λ r. maps ≡ r.state.memory.maps) idle };
 }
 
 -- a tenant without an open run, whose maps became others that have the shapes that its programs use
@@ -160,16 +160,16 @@ still_idle memory t seen tenant maps idle has reserve running =
 -- what a call that changes one of a tenant's maps keeps, and what is known of the memory after it
 pub record HasKept (t : ℕ) (before after : MemoryState) (m : ℕ) : Type 0 where
   pub other_maps : AreMapsKeptBut m (part before t) (part after t)
-  pub others : IsKeptBut t before after
+  pub others : OtherTenantsUnchanged t before after
   pub settings : KeepsSettings before after
   pub reads : ReadsAs after
   pub flat : length (part after t).maps ≡ 8 → AreFlatMaps (part after t).maps
 
-pub has_kept : (t : ℕ) (before after : MemoryState) (m : ℕ) → AreMapsKeptBut m (part before t) (part after t) → IsKeptBut t before after → KeepsSettings before after → ReadsAs after
+pub has_kept : (t : ℕ) (before after : MemoryState) (m : ℕ) → AreMapsKeptBut m (part before t) (part after t) → OtherTenantsUnchanged t before after → KeepsSettings before after → ReadsAs after
     → (length (part after t).maps ≡ 8 → AreFlatMaps (part after t).maps) → HasKept t before after m
 has_kept t before after m other_maps others settings reads flat = record { other_maps = other_maps; others = others; settings = settings; reads = reads; flat = flat }
 
--- ---- Refusals of a call: what the memory told of the tenant, in each system that both stand for
+-- ---- Refusals of a call: what the memory reported of the tenant, in each system that both stand for
 
 -- the event is refused, or it happens
 refused-some : (x : System) (f : Fault) (refusal : Option Fault) (Happening : Type 0) → refusal ≡ Some f → RefusedOr refusal x (Refused f) x Happening
@@ -191,7 +191,7 @@ not-bad owned refusal first eight is = let here : (length owned.maps == 8) ≡ t
 
 module _ (old : TenantView) (memory : MemoryState) (x : System) (t : ℕ) (tenant : Tenant) (there : slice_get x.world t ≡ Some tenant) (stands : StandsForTenant old tenant) (holds : StandsForMemory memory x) where
   eight_there : length (owned_by x.sharing t tenant).maps ≡ 8
-  eight_there = stands.meets.maps.eight
+  eight_there = stands.fulfils.maps.eight
 
   map-refusal : (shape : Shape) (first : Option Fault) → refused_new_map memory t shape ≡ first → new_map_refusal (owned_by x.sharing t tenant) shape (have_in x) ≡ first
   map-refusal shape first is =
@@ -215,7 +215,7 @@ pub record HasCreated (t : ℕ) (before after : MemoryState) (shape : Shape) (me
   pub allowed : refused_new_map before t shape ≡ None
   pub number : free_number (part before t) ≡ Some m
   pub created : part after t ≡ part_created (part before t) m shape
-  pub sharing : after.sharing ≡ with_new_pages before.sharing (map_place t m * 256) (page_count shape) mergeable
+  pub sharing : after.sharing ≡ with_new_pages before.sharing (map_index_of t m * 256) (page_count shape) mergeable
   pub kept : HasKept t before after m
 
 -- a map that is made
@@ -228,14 +228,14 @@ create-made t old before after value_size entries mergeable m idle made x tenant
     let next : Tenant = record tenant { maps = slice_set tenant.maps m (Some (zero_map shape)) } in
     let became = made.created ∙ ap (λ o. part_created o m shape) owned in
     let is : part after t ≡ owned_by after.sharing t next = still_idle after t x.sharing tenant next.maps none (ap (λ (o : TenantPart). o.maps) became) (ap (λ (o : TenantPart). o.reserve) became) (ap (λ (o : TenantPart). o.running) became) in
-    let eight : length next.maps ≡ 8 = length-set tenant.maps m (Some (zero_map shape)) ∙ stands.meets.maps.eight in
+    let eight : length next.maps ≡ 8 = length-set tenant.maps m (Some (zero_map shape)) ∙ stands.fulfils.maps.eight in
     let flat : AreFlatMaps next.maps = subst (λ (o : TenantPart). AreFlatMaps o.maps) is (made.kept.flat (ap (λ (o : TenantPart). length o.maps) is ∙ eight)) in
     let free : free_number (owned_by x.sharing t tenant) ≡ Some m = subst (λ o. free_number o ≡ Some m) owned made.number in
     let others : (j : ℕ) → j ≢ m → map_at next.maps j ≡ map_at tenant.maps j = subst (λ o. AreMapsKeptBut m o (owned_by after.sharing t next)) owned (subst (λ o. AreMapsKeptBut m (part before t) o) is made.kept.other_maps) in
     let have : (shapes : List (Option Shape)) → HaveShapes shapes tenant.maps → HaveShapes shapes next.maps =
     λ shapes. shapes_kept shapes tenant.maps next.maps m others (λ s had. absurd (free_shapeless (owned_by x.sharing t tenant) m s free had)) in
-    let sharing : Sharing = with_new_pages x.sharing (map_place t m * 256) (page_count shape) mergeable in
-    let shares : after.sharing ≡ sharing = made.sharing ∙ ap (λ s. with_new_pages s (map_place t m * 256) (page_count shape) mergeable) holds.sharing in
+    let sharing : Sharing = with_new_pages x.sharing (map_index_of t m * 256) (page_count shape) mergeable in
+    let shares : after.sharing ≡ sharing = made.sharing ∙ ap (λ s. with_new_pages s (map_index_of t m * 256) (page_count shape) mergeable) holds.sharing in
     let allowed : create_refusal x t tenant shape ≡ None =
     while-idle tenant (new_map_refusal (owned_by x.sharing t tenant) shape (have_in x)) None none (map-refusal old before x t tenant there stands holds shape None made.allowed) in (
       next,
@@ -295,7 +295,7 @@ update-done t old before after m key value idle made x tenant there stands holds
     let next : Tenant = record tenant { maps = maps_updated tenant.maps m key value 0 } in
     let became = made.updated ∙ ap (λ o. part_updated o m key value 0) owned in
     let is : part after t ≡ owned_by after.sharing t next = still_idle after t x.sharing tenant next.maps none (ap (λ (o : TenantPart). o.maps) became) (ap (λ (o : TenantPart). o.reserve) became) (ap (λ (o : TenantPart). o.running) became) in
-    let eight : length next.maps ≡ 8 = length-updated tenant.maps m key value ∙ stands.meets.maps.eight in
+    let eight : length next.maps ≡ 8 = length-updated tenant.maps m key value ∙ stands.fulfils.maps.eight in
     let flat : AreFlatMaps next.maps = subst (λ (o : TenantPart). AreFlatMaps o.maps) is (made.kept.flat (ap (λ (o : TenantPart). length o.maps) is ∙ eight)) in
     let others : (j : ℕ) → j ≢ m → map_at next.maps j ≡ map_at tenant.maps j = subst (λ o. AreMapsKeptBut m o (owned_by after.sharing t next)) owned (subst (λ o. AreMapsKeptBut m (part before t) o) is made.kept.other_maps) in
     let have : (shapes : List (Option Shape)) → HaveShapes shapes tenant.maps → HaveShapes shapes next.maps =
@@ -336,9 +336,9 @@ update-busy t old memory m key value busy =
     ))
 
 -- a value that is read
-pub lookup-told : (t : ℕ) (old : TenantView) (memory : MemoryState) (m key : ℕ) (bytes : List ℕ) → refused_lookup memory t m key ≡ None → IsValue (part memory t) m key bytes
+pub lookup-into_reply : (t : ℕ) (old : TenantView) (memory : MemoryState) (m key : ℕ) (bytes : List ℕ) → refused_lookup memory t m key ≡ None → IsValue (part memory t) m key bytes
     → IsServed t old memory (HostLookup t m key) (Value bytes) old memory
-lookup-told t old memory m key bytes allowed value =
+lookup-into_reply t old memory m key bytes allowed value =
     served-same t old memory (HostLookup t m key) (Value bytes) (λ x tenant there stands holds.
     let none = element-refusal old memory x t tenant there stands holds m key None allowed in
     let here = subst (λ o. IsValue o m key bytes) (part_stands memory x t tenant holds there) value in

@@ -16,7 +16,7 @@ use Rattle.bpf_decode.specs.declared.operation.Operation.{Operation}
 use Rattle.bpf_decode.specs.declared.operation.Operation.TheVariants.{Alu, Load, Store, LoadImmediate, Jump, Branch, Call, Exit}
 use Rattle.bpf_decode.specs.Text.{instructions_of, instructions_before, insn_at}
 use Rattle.page_table.specs.declared.tenant.Tenant.{Tenant as Recorded}
-use Rattle.page_table.specs.Changes.{IsKeptBut}
+use Rattle.page_table.specs.Changes.{OtherTenantsUnchanged}
 use Rattle.page_table.specs.Reads.{ReadsAs}
 use Rattle.page_table.specs.State.{MemoryState, part}
 use Rattle.verifier.specs.Named.{named_shapes}
@@ -29,13 +29,13 @@ use Rattle.interp.specs.Machine.{MachineState, Outcome, Next, Exits, operation_a
 use Rattle.interp.specs.Needs.{map_stored, maps_after}
 use Rattle.interp.specs.StandsFor.{Running, StandsFor}
 use Rattle.interp.specs.Written.{written, written_by_operation}
-use Rattle.tenant_runs.specs.Meeting.{KeepsSizes}
-use Rattle.host_core.specs.declared.event.Event.{Event}
-use Rattle.host_core.specs.declared.event.Event.TheVariants.{Step}
-use Rattle.host_core.specs.declared.event.Reply.{Reply}
-use Rattle.host_core.specs.declared.event.Reply.TheVariants.{Stepped, Ended, Refused}
+use Rattle.tenant_runs.specs.Fulfilment.{KeepsSizes}
+use Rattle.host_types.specs.declared.event.Event.{Event}
+use Rattle.host_types.specs.declared.event.Event.TheVariants.{Step}
+use Rattle.host_core.specs.declared.reply.Reply.{Reply}
+use Rattle.host_core.specs.declared.reply.Reply.TheVariants.{Stepped, Ended, Refused}
 use Rattle.host_core.specs.declared.tenant.OpenRun.{OpenRun as KeptRun}
-use Rattle.host_core.specs.World.{Beginning, started, met, Leads, OpenRun, Tenant, System, IsTenant, IsOpenRun, IsCovered, accepted_of, pins_of, reserve_of, reserved_in, owned_by}
+use Rattle.host_core.specs.World.{Beginning, started, found_open, Leads, OpenRun, Tenant, System, IsTenant, IsOpenRun, IsCovered, accepted_of, pins_of, reserve_of, reserved_in, owned_by}
 use Rattle.host_core.specs.Happens.{Answers, StepHappens, Happens, IsPromised, IsPromisedOf, AllHappen, StepsHappen, changed_system, sharing_after}
 use Rattle.host_core.specs.HostView.{TenantView, EachProgram, StandsForRun, StandsForAnyRun, StandsForTenant, StandsForMemory, IsKept, HasMadeSteps, steps_of}
 use Rattle.host_core.specs.Stretches.{IsUnderWayAt, KeepsPins, needed_in, HasAdvanced, HasDone, AreMade, AreMadeFrom, IsOn, IsAnswered, IsEnded, went_on, answered, ended, part_in, reserved_of}
@@ -43,7 +43,7 @@ use Rattle.host_core.proofs.Worlds.{slice_get-set, OfTenant-there, changed_syste
 use Rattle.host_core.proofs.Memories.{owned-idle}
 use Rattle.host_core.proofs.Systems.{part_stands, reserved_stands, covered, covered-step, changed_stands}
 use Rattle.host_core.proofs.Joined.{AllHappen-join}
-use Rattle.host_core.proofs.Places.{all-at}
+use Rattle.host_core.proofs.EntryIndices.{all-at}
 use Rattle.host_core.proofs.Advances.{some_instruction}
 use Rattle.host_core.proofs.Opening.{accepted-tight}
 
@@ -156,7 +156,7 @@ tenant_after tenant maps = record tenant { maps = maps; run = None }
 -- one step more
 led-more : (text : List ℕ) (beginning : Beginning) (steps : ℕ) (s : MachineState) (outcome : Outcome) → Leads text beginning steps (Next s) → step text s ≡ Some outcome → Leads text beginning (suc steps) outcome
 led-more text (started context maps) steps s outcome led makes = (s, led, makes)
-led-more text (met from before) steps s outcome (since, whole, led) makes = (suc since, omega (arith, whole), (s, led, makes))
+led-more text (found_open from before) steps s outcome (since, whole, led) makes = (suc since, omega (arith, whole), (s, led, makes))
 
 -- a step after which an open run goes on
 step-on : (x : System) (t : ℕ) (tenant : Tenant) (r : OpenRun) (u : MachineState) (sharing : Sharing) → slice_get x.world t ≡ Some tenant → tenant.run ≡ Some r → Leads r.program.text r.beginning r.steps (Next r.state)
@@ -238,11 +238,11 @@ made-moved v p t all all' mine mine' frames frames' s before before' n u after p
 
 -- the maps of a tenant are those of its run
 maps_of_run : (tenant : Tenant) (r : OpenRun) → IsTenant tenant → tenant.run ≡ Some r → tenant.maps ≡ r.state.memory.maps
-maps_of_run tenant r meets is_open = subst (λ o. IfSome o (λ one. tenant.maps ≡ one.state.memory.maps)) is_open meets.same
+maps_of_run tenant r fulfils is_open = subst (λ o. IfSome o (λ one. tenant.maps ≡ one.state.memory.maps)) is_open fulfils.same
 
 -- its run is one of the standard's
 run_reached : (tenant : Tenant) (r : OpenRun) → IsTenant tenant → tenant.run ≡ Some r → IsOpenRun r
-run_reached tenant r meets is_open = subst (λ o. IfSome o IsOpenRun) is_open meets.run
+run_reached tenant r fulfils is_open = subst (λ o. IfSome o IsOpenRun) is_open fulfils.run
 
 -- a kept run's program is the system's
 program-same : (programs : List (Option Accepted)) (kept : KeptRun) (r : OpenRun) → EachProgram IsVerified programs → (run : StandsForRun programs kept r) → accepted_of r.program ≡ run.accepted
@@ -254,7 +254,7 @@ pub under-way : (programs : List (Option Accepted)) (kept : KeptRun) (t : ℕ) (
     → IsUnderWayAt programs kept run.accepted r.state (part memory t)
 under-way programs kept t memory x tenant r there stood stands is_open run =
     let owned : part memory t ≡ owned_by x.sharing t tenant = part_stands memory x t tenant stands there in
-    let maps : (part memory t).maps ≡ r.state.memory.maps = ap (λ (o : TenantPart). o.maps) owned ∙ maps_of_run tenant r stood.meets is_open in
+    let maps : (part memory t).maps ≡ r.state.memory.maps = ap (λ (o : TenantPart). o.maps) owned ∙ maps_of_run tenant r stood.fulfils is_open in
     let same = program-same programs kept r stood.verified run in
     record {
       numbered = run.numbered;
@@ -308,7 +308,7 @@ stood-on programs kept after tenant r n u stood run same_program stands shapes c
       verified = stood.verified;
       shapes = all_have_alike programs tenant.maps u.memory.maps shapes stood.shapes;
       run = record { accepted = run.accepted; numbered = ap (slice_get programs) same_program ∙ run.numbered; program = run.program; state = stands; steps = counted };
-      meets = record { maps = stands.state.maps; places = stood.meets.places; run = record { reached = reached; steps = below }; same = refl };
+      fulfils = record { maps = stands.state.maps; entry_indices = stood.fulfils.entry_indices; run = record { reached = reached; steps = below }; same = refl };
     }
 
 -- what belongs to it
@@ -329,13 +329,13 @@ made-in programs kept t n before x tenant r u after stood stands is_open run mad
     let same = program-same programs kept r stood.verified run in
     let all : reserved_of before ≡ reserved_in x = ap (λ tenants. sum_by (λ (one : Recorded). one.reserve) tenants) stands.recorded ∙ reserved_stands x.sharing 0 x.world in
     let mine : needed_in v t before.sharing r.state ≡ (owned_by x.sharing t tenant).reserve =
-    ap (λ s. needed_in v t s r.state) stands.sharing ∙ ap (λ q. needed_in q t x.sharing r.state) (sym same) ∙ sym (mine-open x.sharing t tenant r is_open (maps_of_run tenant r stood.meets is_open)) in
+    ap (λ s. needed_in v t s r.state) stands.sharing ∙ ap (λ q. needed_in q t x.sharing r.state) (sym same) ∙ sym (mine-open x.sharing t tenant r is_open (maps_of_run tenant r stood.fulfils is_open)) in
     made-moved v (accepted_of r.program) t (reserved_of before) (reserved_in x) (needed_in v t before.sharing r.state) (owned_by x.sharing t tenant).reserve _ x.frames r.state before.sharing x.sharing n u after (sym same) all mine stands.frames stands.sharing made
 
 -- Steps of a kept run in a system in which its tenant stands, and a later memory in which the others stand as they did.
 module _ (programs : List (Option Accepted)) (kept : KeptRun) (t n : ℕ) (before later : MemoryState) (x : System) (tenant : Tenant) (r : OpenRun)
     (there : slice_get x.world t ≡ Some tenant) (stood : StandsForTenant (record { programs = programs; run = Some kept }) tenant) (stands : StandsForMemory before x) (is_open : tenant.run ≡ Some r)
-    (run : StandsForRun programs kept r) (reads' : ReadsAs later) (others : IsKeptBut t before later) (sizes : KeepsSizes before later) where
+    (run : StandsForRun programs kept r) (reads' : ReadsAs later) (others : OtherTenantsUnchanged t before later) (sizes : KeepsSizes before later) where
   -- the run goes on
   module _ (after : KeptRun) (same_program : after.program ≡ kept.program) (made : after.run.steps ≡ kept.run.steps + n) where
     -- steps that ask nothing of its maps
@@ -345,12 +345,12 @@ module _ (programs : List (Option Accepted)) (kept : KeptRun) (t n : ℕ) (befor
         let v = run.accepted in
         let same = program-same programs kept r stood.verified run in
         let verified = verified-at programs kept.program v stood.verified run.numbered in
-        let maps = maps_of_run tenant r stood.meets is_open in
+        let maps = maps_of_run tenant r stood.fulfils is_open in
         let counted : after.run.steps ≡ r.steps + n = made ∙ ap (λ k. k + n) run.steps in
         let most = some_instruction v after.run u verified did.stands in
         let few : r.steps + n < instructions_of r.program.text = subst (λ q. r.steps + n < instructions_of q.text) (sym run.program) (omega (arith, most, counted)) in
         let led = made-in programs kept t n before x tenant r u later.sharing stood stands is_open run did.reached in
-        let (happen, come, shapes, pins) = steps-on x t tenant r n u later.sharing there is_open maps (run_reached tenant r stood.meets is_open).reached led few in
+        let (happen, come, shapes, pins) = steps-on x t tenant r n u later.sharing there is_open maps (run_reached tenant r stood.fulfils is_open).reached led few in
         let next = tenant_at tenant r (r.steps + n) u in
         let stood' = stood-on programs kept after tenant r (r.steps + n) u stood run same_program did.stands shapes counted come in
         let stands' = changed_stands before later x t tenant next later.sharing later.sharing stands there sizes.tenants sizes.frames reads' did.stands.state.maps.eight (did.owned ∙ owned-on tenant r v (r.steps + n) t later.sharing u same) others refl in
@@ -366,12 +366,12 @@ module _ (programs : List (Option Accepted)) (kept : KeptRun) (t n : ℕ) (befor
         let last = did.last in
         let same = program-same programs kept r stood.verified run in
         let verified = verified-at programs kept.program v stood.verified run.numbered in
-        let maps = maps_of_run tenant r stood.meets is_open in
+        let maps = maps_of_run tenant r stood.fulfils is_open in
         let counted : after.run.steps ≡ suc (r.steps + m) = let stepped = run.steps in omega (arith, made, last, stepped) in
         let most = some_instruction v after.run u verified did.stands in
         let few : suc (r.steps + m) < instructions_of r.program.text = subst (λ q. suc (r.steps + m) < instructions_of q.text) (sym run.program) (omega (arith, most, counted)) in
         let led = made-in programs kept t m before x tenant r h did.between stood stands is_open run did.reached in
-        let (happen, come, shaped, pins) = steps-on x t tenant r m h did.between there is_open maps (run_reached tenant r stood.meets is_open).reached led (omega (arith, few)) in
+        let (happen, come, shaped, pins) = steps-on x t tenant r m h did.between there is_open maps (run_reached tenant r stood.fulfils is_open).reached led (omega (arith, few)) in
         let makes = subst (λ q. step q.text h ≡ Some (Next u)) (sym run.program) did.makes in
         let middle = tenant_at tenant r (r.steps + m) h in
         let next = tenant_at tenant r (suc (r.steps + m)) u in
@@ -392,7 +392,7 @@ module _ (programs : List (Option Accepted)) (kept : KeptRun) (t n : ℕ) (befor
     made-on (answered did) = made-answered did
 
   -- steps, and one more with which the run ends
-  module _ (run_after : Running) (steps : ℕ) (made : run_after.steps ≡ kept.run.steps + n) (told : steps ≡ run_after.steps) where
+  module _ (run_after : Running) (steps : ℕ) (made : run_after.steps ≡ kept.run.steps + n) (into_reply : steps ≡ run_after.steps) where
     made-ended : (number : ℕ) → IsEnded run.accepted r.state n t number before run_after later → MadeSteps x t n (Some (Ended number steps)) (record { programs = programs; run = None }) later
     made-ended number did =
         let m = did.made in
@@ -400,14 +400,14 @@ module _ (programs : List (Option Accepted)) (kept : KeptRun) (t n : ℕ) (befor
         let v = run.accepted in
         let last = did.last in
         let final = h.memory.maps in
-        let maps = maps_of_run tenant r stood.meets is_open in
+        let maps = maps_of_run tenant r stood.fulfils is_open in
         let counted : run_after.steps ≡ suc (r.steps + m) = let stepped = run.steps in omega (arith, made, last, stepped) in
         let few' = did.few in
         let few : suc (r.steps + m) ≤ instructions_of r.program.text = subst (λ q. suc (r.steps + m) ≤ instructions_of q.text) (sym run.program) (omega (arith, few', counted)) in
         let sharing = later.sharing in
         let between = did.between in
         let led = made-in programs kept t m before x tenant r h between stood stands is_open run did.reached in
-        let (happen, come, shapes, pins) = steps-on x t tenant r m h between there is_open maps (run_reached tenant r stood.meets is_open).reached led (omega (arith, few)) in
+        let (happen, come, shapes, pins) = steps-on x t tenant r m h between there is_open maps (run_reached tenant r stood.fulfils is_open).reached led (omega (arith, few)) in
         let makes = subst (λ q. step q.text h ≡ Some (Exits number final)) (sym run.program) did.makes in
         let middle = tenant_at tenant r (r.steps + m) h in
         let next = tenant_after tenant final in
@@ -418,15 +418,15 @@ module _ (programs : List (Option Accepted)) (kept : KeptRun) (t n : ℕ) (befor
           verified = stood.verified;
           shapes = all_have_alike programs tenant.maps final shapes stood.shapes;
           run = tt;
-          meets = record { maps = did.flat; places = stood.meets.places; run = tt; same = tt };
+          fulfils = record { maps = did.flat; entry_indices = stood.fulfils.entry_indices; run = tt; same = tt };
         } in
         let owned = owned-idle later t next refl (ap (λ (o : TenantPart). o.maps) did.owned) (ap (λ (o : TenantPart). o.reserve) did.owned) (ap (λ (o : TenantPart). o.running) did.owned) in
-        let stands' = changed_stands before later x t tenant next sharing sharing stands there sizes.tenants sizes.frames reads' stood'.meets.maps.eight owned others refl in
+        let stands' = changed_stands before later x t tenant next sharing sharing stands there sizes.tenants sizes.frames reads' stood'.fulfils.maps.eight owned others refl in
         let covers = subst IsCovered (sym twice) (covered later (changed_system x t next sharing) reads' stands') in
         let all = AllHappen-push x (changed_system x t middle between) (changed_system (changed_system x t middle between) t next sharing) (replicate m (Step t)) (replicate m Stepped) (Step t) (Ended number (suc (r.steps + m))) happen one covers in
         let all' = subst (λ y. AllHappen x (replicate m (Step t) ++ Step t ∷ []) (replicate m Stepped ++ Ended number (suc (r.steps + m)) ∷ []) y) twice all in
-        let tells : suc (r.steps + m) ≡ steps = sym counted ∙ sym told in
-        let happened = subst (λ k. AllHappen x (replicate m (Step t) ++ Step t ∷ []) (replicate m Stepped ++ Ended number k ∷ []) (changed_system x t next sharing)) tells all' in
+        let says : suc (r.steps + m) ≡ steps = sym counted ∙ sym into_reply in
+        let happened = subst (λ k. AllHappen x (replicate m (Step t) ++ Step t ∷ []) (replicate m Stepped ++ Ended number k ∷ []) (changed_system x t next sharing)) says all' in
         (next, sharing, stood', stands', (replicate m (Step t) ++ Step t ∷ [], replicate m Stepped ++ Ended number steps ∷ [], (m, omega (arith, last), (λ e. cc), refl, refl), happened))
 
     made-off : (number : ℕ) → HasDone run.accepted r.state n t before run_after later (Some number) → MadeSteps x t n (Some (Ended number steps)) (record { programs = programs; run = None }) later
@@ -434,7 +434,7 @@ module _ (programs : List (Option Accepted)) (kept : KeptRun) (t n : ℕ) (befor
 
 -- steps that were made in one go, after which a kept run goes on
 pub made-steps : (programs : List (Option Accepted)) (kept after : KeptRun) (t limit steps : ℕ) (before later : MemoryState)
-    → ReadsAs before → ReadsAs later → IsKeptBut t before later → KeepsSizes before later → after.program ≡ kept.program → kept.run.steps + steps ≡ after.run.steps
+    → ReadsAs before → ReadsAs later → OtherTenantsUnchanged t before later → KeepsSizes before later → after.program ≡ kept.program → kept.run.steps + steps ≡ after.run.steps
     → ((v : Accepted) (s : MachineState) → IsUnderWayAt programs kept v s (part before t) → HasAdvanced v s t limit kept.run before None after.run later)
     → HasMadeSteps t (record { programs = programs; run = Some kept }) before steps None (record { programs = programs; run = Some after }) later
 made-steps programs kept after t limit steps before later reads reads' others sizes same_program counted advanced x tenant there stood stands =
@@ -446,15 +446,15 @@ made-steps programs kept after t limit steps before later reads reads' others si
 
 -- steps that were made in one go, with the last of which it ended
 pub made-last_step : (programs : List (Option Accepted)) (kept : KeptRun) (run_after : Running) (t limit number made total : ℕ) (before later : MemoryState)
-    → ReadsAs before → ReadsAs later → IsKeptBut t before later → KeepsSizes before later → kept.run.steps + made ≡ run_after.steps → total ≡ run_after.steps
+    → ReadsAs before → ReadsAs later → OtherTenantsUnchanged t before later → KeepsSizes before later → kept.run.steps + made ≡ run_after.steps → total ≡ run_after.steps
     → ((v : Accepted) (s : MachineState) → IsUnderWayAt programs kept v s (part before t) → HasAdvanced v s t limit kept.run before (Some number) run_after later)
     → HasMadeSteps t (record { programs = programs; run = Some kept }) before made (Some (Ended number total)) (record { programs = programs; run = None }) later
-made-last_step programs kept run_after t limit number made total before later reads reads' others sizes counted told advanced x tenant there stood stands =
+made-last_step programs kept run_after t limit number made total before later reads reads' others sizes counted into_reply advanced x tenant there stood stands =
     let (r, is_open, run) = run-found programs kept tenant.run stood.run in
     let (n, some, few, stepped, done) = advanced run.accepted r.state (under-way programs kept t before x tenant r there stood stands is_open run) in
     let whole : n ≡ made = omega (arith, stepped, counted) in
     subst (λ k. MadeSteps x t k (Some (Ended number total)) (record { programs = programs; run = None }) later) whole
-    (made-off programs kept t n before later x tenant r there stood stands is_open run reads' others sizes run_after total stepped told number done)
+    (made-off programs kept t n before later x tenant r there stood stands is_open run reads' others sizes run_after total stepped into_reply number done)
 
 -- a kept run that advanced made one step at least, and no more than its limit
 pub advanced-some : (programs : List (Option Accepted)) (kept : KeptRun) (after : Running) (t limit : ℕ) (last : Option ℕ) (before later : MemoryState)

@@ -9,7 +9,7 @@ use Rattle.std.proofs.lemmas.List.Sums.{sum_by-cons}
 use Rattle.std.proofs.lemmas.Option.{get_or_from_slice_get}
 use Rattle.host_types.specs.Sharing.{Sharing, frames_free}
 use Rattle.page_table.specs.declared.tenant.Tenant.{Tenant as Recorded}
-use Rattle.page_table.specs.Changes.{AreKept, IsKeptBut, KeepsSettings}
+use Rattle.page_table.specs.Changes.{AreKept, OtherTenantsUnchanged, KeepsSettings}
 use Rattle.page_table.specs.Reads.{ReadsAs}
 use Rattle.page_table.specs.State.{MemoryState, part, have_of, unreserved_tenant}
 use Rattle.host_core.specs.World.{Tenant, World, System, pins_of, reserve_of, owned_by, have_in, reserved_from, reserved_in, IsCovered}
@@ -57,8 +57,8 @@ pub shares_stands : (before after : MemoryState) (x : System) (sharing : Sharing
     → StandsForMemory after (record x { sharing = sharing })
 shares_stands before after x sharing stands kept parts maps is =
     let many : length after.tenants ≡ length x.world = ap length kept.tenants ∙ many_stands before x stands in
-    let places : length after.maps ≡ length x.world * 8 = ap length (maps ∙ stands.maps) ∙ length_all x.world stands.eight in
-    let (all, recorded) = memory_of_parts after after.sharing x.world stands.eight many places
+    let entry_indices : length after.maps ≡ length x.world * 8 = ap length (maps ∙ stands.maps) ∙ length_all x.world stands.eight in
+    let (all, recorded) = memory_of_parts after after.sharing x.world stands.eight many entry_indices
     (λ t tenant there. owned-now after x.sharing t tenant (parts t ∙ part_stands before x t tenant stands there)) in
     record {
       maps = all;
@@ -71,14 +71,14 @@ shares_stands before after x sharing stands kept parts maps is =
 -- a memory of which one tenant's part and the pages that share frames changed
 pub changed_stands : (before after : MemoryState) (x : System) (t : ℕ) (tenant next : Tenant) (sharing seen : Sharing) → StandsForMemory before x → slice_get x.world t ≡ Some tenant
     → length after.tenants ≡ length before.tenants → length after.arena ≡ length before.arena → ReadsAs after → length next.maps ≡ 8
-    → part after t ≡ owned_by seen t next → IsKeptBut t before after → after.sharing ≡ sharing → StandsForMemory after (changed_system x t next sharing)
+    → part after t ≡ owned_by seen t next → OtherTenantsUnchanged t before after → after.sharing ≡ sharing → StandsForMemory after (changed_system x t next sharing)
 changed_stands before after x t tenant next sharing seen stands there tenants frames reads eight owned others is =
     let w' : World = set x.world t next in
     let all : All IsEight w' = All-set IsEight x.world t next eight stands.eight in
     let many = many_stands before x stands in
     let counted : length after.tenants ≡ length w' = omega (arith, tenants, many, length-set x.world t next) in
-    let places : length after.maps ≡ length w' * 8 = let whole = reads.eight in omega (arith, whole, counted) in
-    let (maps, recorded) = memory_of_parts after after.sharing w' all counted places (λ j found is_there. each j found is_there (eqb_tells j t)) in
+    let entry_indices : length after.maps ≡ length w' * 8 = let whole = reads.eight in omega (arith, whole, counted) in
+    let (maps, recorded) = memory_of_parts after after.sharing w' all counted entry_indices (λ j found is_there. each j found is_there (eqb_tells j t)) in
     record { maps = maps; eight = all; sharing = is; frames = frames ∙ stands.frames; recorded = recorded ∙ ap (λ s. recorded_in s 0 w') is }
   where
     each : (j : ℕ) (found : Tenant) → slice_get (set x.world t next) j ≡ Some found → ((eqb j t ≡ true) × (j ≡ t)) ⊎ ((eqb j t ≡ false) × (j ≢ t)) → part after j ≡ owned_by after.sharing j found

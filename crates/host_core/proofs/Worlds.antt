@@ -1,12 +1,12 @@
--- A list in which the item at a place changed, and worlds in which one tenant did.
+-- A list in which the item at an index changed, and worlds in which one tenant did.
 use Rattle.std.proofs.Common.{◌≡◌, ℕ, zero, suc, ◌<◌, List, [], ◌∷◌, length, set, Option, Some, None, MatchOption, ◌≢◌, set-set, sym, ap, refl, ◌∙◌, subst, arith}
 use Rattle.std.specs.List.{slice_get, AllZip}
 use Rattle.std.proofs.lemmas.List.{set-get_or, get_or-set_same, length-set}
 use Rattle.std.proofs.lemmas.Option.{get_or_from_slice_get, slice_get_within, slice_get-get_or}
 use Rattle.host_types.specs.declared.fault.Fault.{Fault}
 use Rattle.host_types.specs.declared.fault.Fault.TheVariants as fault
-use Rattle.host_core.specs.declared.event.Reply.{Reply}
-use Rattle.host_core.specs.declared.event.Reply.TheVariants.{Refused}
+use Rattle.host_core.specs.declared.reply.Reply.{Reply}
+use Rattle.host_core.specs.declared.reply.Reply.TheVariants.{Refused}
 use Rattle.host_types.specs.Sharing.{Sharing}
 use Rattle.host_core.specs.World.{Tenant, World, System}
 use Rattle.host_core.specs.Happens.{Answers, RefusedOr, OfTenant, changed_system}
@@ -33,7 +33,7 @@ AllZip-set R (a ∷ xs) [] i x y h r = absurd h
 AllZip-set R (a ∷ xs) (b ∷ ys) zero x y h r = (r, h.1)
 AllZip-set R (a ∷ xs) (b ∷ ys) (suc i) x y h r = (h.0, AllZip-set R xs ys i x y h.1 r)
 
--- what stands at the same place of the other list
+-- what stands at the same index of the other list
 pub AllZip-found : {A B : Type 0} (R : A → B → Type 0) (xs : List A) (ys : List B) (i : ℕ) (x : A) → AllZip R xs ys → slice_get xs i ≡ Some x → (y : B) × (slice_get ys i ≡ Some y) × R x y
 AllZip-found R [] ys i x h e = absurd (cc)
 AllZip-found R (a ∷ xs) [] i x h e = absurd h
@@ -50,7 +50,7 @@ AllZip-missing R (a ∷ xs) [] i h e = absurd h
 AllZip-missing R (a ∷ xs) (b ∷ ys) zero h e = absurd (cc)
 AllZip-missing R (a ∷ xs) (b ∷ ys) (suc i) h e = AllZip-missing R xs ys i h.1 e
 
--- the item at another place
+-- the item at another index
 pub slice_get-set-other : {X : Type 0} (xs : List X) (i j : ℕ) (y : X) → j ≢ i → slice_get (set xs i y) j ≡ slice_get xs j
 slice_get-set-other [] i j y other = refl
 slice_get-set-other (x ∷ xs) zero zero y other = absurd (other refl)

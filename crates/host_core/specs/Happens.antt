@@ -10,7 +10,7 @@ use Rattle.host_types.specs.declared.visited.Visited.{Visited}
 use Rattle.host_types.specs.Helpers.{helper}
 use Rattle.host_types.specs.Memory.{FlatMaps, map_at}
 use Rattle.host_types.specs.OptionTable.{MayBe}
-use Rattle.host_types.specs.Pages.{map_place}
+use Rattle.host_types.specs.Pages.{map_index_of}
 use Rattle.host_types.specs.Pins.{released}
 use Rattle.host_types.specs.Sharing.{Sharing}
 use Rattle.host_types.specs.Unmerging.{unmerged, unmerge_need, with_option, MaySet, RefusesSet}
@@ -29,11 +29,11 @@ use Rattle.interp.specs.Machine.{MachineState, Outcome, Next, Exits, step}
 use Rattle.interp.specs.Written.{Written, written}
 use Rattle.host_calls.specs.Calls.{IsValue, first_refusal, lookup_refusal, new_map_refusal, update_refusal}
 use Rattle.host_calls.specs.Programs.{subject_of}
-use Rattle.host_core.specs.declared.event.Event.{Event}
-use Rattle.host_core.specs.declared.event.Event.TheVariants.{CreateMap, Load, Begin, Step, Visit, HostUpdate, HostLookup, Set, Unmerge, Counters, Unload, DropMap}
-use Rattle.host_core.specs.declared.event.Reply.{Reply}
-use Rattle.host_core.specs.declared.event.Reply.TheVariants.{Map, Program, Begun, Stepped, Ended, Visited as WasVisited, Done, Value, Counters as AreCounters, Refused}
-use Rattle.host_core.specs.World.{Leads, OpenRun, Tenant, World, System, program_at, free_place, is_used, begun_run, all_maps, accepted_of, owned_by, have_in, IsCovered}
+use Rattle.host_types.specs.declared.event.Event.{Event}
+use Rattle.host_types.specs.declared.event.Event.TheVariants.{CreateMap, Load, Begin, Step, Visit, HostUpdate, HostLookup, Set, Unmerge, Counters, Unload, DropMap}
+use Rattle.host_core.specs.declared.reply.Reply.{Reply}
+use Rattle.host_core.specs.declared.reply.Reply.TheVariants.{Map, Program, Begun, Stepped, Ended, Visited as WasVisited, Done, Value, Counters as AreCounters, Refused}
+use Rattle.host_core.specs.World.{Leads, OpenRun, Tenant, World, System, program_at, free_program, is_used, begun_run, all_maps, accepted_of, owned_by, have_in, IsCovered}
 
 -- an event was answered so, and changed nothing
 abbrev pub Answers : System → Reply → Reply → System → Type 0
@@ -81,16 +81,16 @@ is_context_size size = nat_le size 256 && size % 8 == 0
 abbrev pub load_refusal : Tenant → ℕ → Option Fault
 load_refusal tenant size = first_refusal (
     (is_some tenant.run, fault.Busy)
-    ∷ (is_none (free_place tenant), fault.TooManyPrograms)
+    ∷ (is_none (free_program tenant), fault.TooManyPrograms)
     ∷ (not (is_context_size size), fault.BadContext) ∷ [])
 
--- A text is loaded to the tenant's first free place if it is well formed and has a tight table in which no
+-- A text is loaded to the tenant's first free entry if it is well formed and has a tight table in which no
 -- rule is broken. Else the refusal is that of the text. Memory may run out only for a text that is well formed.
 pub data LoadHappens (x : System) (t : ℕ) (tenant : Tenant) (p : Subject) (reply : Reply) (x' : System) : Type 0 where
   malformed : (refusal : Refusal) → IsFirstFault p.text refusal → Answers x (Refused (fault.Program refusal)) reply x' → LoadHappens x t tenant p reply x'
   unlawful : IsWellFormed p.text → (refusal : Refusal) → IsRefusal p refusal → Answers x (Refused (fault.Program refusal)) reply x' → LoadHappens x t tenant p reply x'
-  lacking : IsWellFormed p.text → Answers x (Refused fault.OutOfMemory) reply x' → LoadHappens x t tenant p reply x'
-  loaded : IsWellFormed p.text → (table : Table) → IsTightTable p table → (k : ℕ) → free_place tenant ≡ Some k
+  refusal_or_out_of_memory : IsWellFormed p.text → Answers x (Refused fault.OutOfMemory) reply x' → LoadHappens x t tenant p reply x'
+  loaded : IsWellFormed p.text → (table : Table) → IsTightTable p table → (k : ℕ) → free_program tenant ≡ Some k
       → Leaves x t (record tenant { programs = slice_set tenant.programs k (Some p) }) x.sharing (Program k) reply x' → LoadHappens x t tenant p reply x'
 
 -- what is refused of a run that is to begin
@@ -144,7 +144,7 @@ abbrev pub CreateHappens : System → ℕ → Tenant → Shape → Bool → Repl
 CreateHappens x t tenant shape mergeable reply x' =
     (m : ℕ) × (free_number (owned_by x.sharing t tenant) ≡ Some m)
     × Leaves x t (record tenant { maps = slice_set tenant.maps m (Some (zero_map shape)) })
-    (with_new_pages x.sharing (map_place t m * 256) (page_count shape) mergeable) (Map m) reply x'
+    (with_new_pages x.sharing (map_index_of t m * 256) (page_count shape) mergeable) (Map m) reply x'
 
 -- what is refused of a value that is to be written
 abbrev pub host_update_refusal : System → ℕ → Tenant → ℕ → ℕ → List ℕ → Option Fault
@@ -167,7 +167,7 @@ unload_refusal tenant k = first_refusal (
     (is_some tenant.run, fault.Busy)
     ∷ (is_none (program_at tenant k), fault.NoProgram) ∷ [])
 
--- a program is no longer at its place
+-- a program is no longer at its index
 abbrev pub UnloadHappens : System → ℕ → Tenant → ℕ → Reply → System → Type 0
 UnloadHappens x t tenant k reply x' = Leaves x t (record tenant { programs = slice_set tenant.programs k None }) x.sharing Done reply x'
 
@@ -182,7 +182,7 @@ drop_refusal tenant m = first_refusal (
 abbrev pub DropHappens : System → ℕ → Tenant → ℕ → Reply → System → Type 0
 DropHappens x t tenant m reply x' =
     Leaves x t (record tenant { maps = slice_set tenant.maps m None })
-    (dropped x.sharing (map_place t m * 256) (pages_of_map (owned_by x.sharing t tenant) m)) Done reply x'
+    (dropped x.sharing (map_index_of t m * 256) (pages_of_map (owned_by x.sharing t tenant) m)) Done reply x'
 
 -- one visit of the scanner: no tenant changes
 abbrev pub VisitHappens : System → Reply → System → Type 0

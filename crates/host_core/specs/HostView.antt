@@ -9,15 +9,15 @@ use Rattle.verifier.specs.Named.{named_shapes}
 use Rattle.verifier.specs.Verified.{Accepted, IsVerified}
 use Rattle.interp.specs.Fits.{HaveShapes}
 use Rattle.interp.specs.StandsFor.{StandsFor}
-use Rattle.host_core.specs.declared.event.Event.{Event}
-use Rattle.host_core.specs.declared.event.Event.TheVariants.{CreateMap, Load, Begin, Step, HostUpdate, HostLookup, Unload, DropMap}
-use Rattle.host_core.specs.declared.event.Reply.{Reply}
-use Rattle.host_core.specs.declared.event.Reply.TheVariants.{Refused}
+use Rattle.host_types.specs.declared.event.Event.{Event}
+use Rattle.host_types.specs.declared.event.Event.TheVariants.{CreateMap, Load, Begin, Step, HostUpdate, HostLookup, Unload, DropMap}
+use Rattle.host_core.specs.declared.reply.Reply.{Reply}
+use Rattle.host_core.specs.declared.reply.Reply.TheVariants.{Refused}
 use Rattle.host_core.specs.declared.tenant.OpenRun.{OpenRun as KeptRun}
 use Rattle.host_core.specs.World.{OpenRun, Tenant, World, System, IsTenant, all_maps, names_there, owned_by}
 use Rattle.host_core.specs.Happens.{Happens, IsPromised, StepsHappen, changed_system}
 
--- a tenant as a host keeps it: its accepted programs by place, and its open run, if it has one
+-- a tenant as a host keeps it: its accepted programs by index, and its open run, if it has one
 pub record TenantView : Type 0 where
   pub programs : List (Option Accepted)
   pub run : Option KeptRun
@@ -31,11 +31,11 @@ pub record HostView : Type 0 where
 abbrev pub EachProgram : (Accepted → Type 0) → List (Option Accepted) → Type 0
 EachProgram Holds programs = All (λ slot. IfSome slot Holds) programs
 
--- a program is kept at a place, and one of its instructions, reached or not, names the map
+-- a program is kept at an index, and one of its instructions, reached or not, names the map
 abbrev pub names_in : ℕ → Option Accepted → Bool
 names_in m slot = names_there m (option_map (λ accepted. accepted.subject) slot)
 
--- An open run stands for one of the system: it is a run of the program at its place, stands for its state,
+-- An open run stands for one of the system: it is a run of the program at its index, stands for its state,
 -- and made as many steps.
 pub record StandsForRun (programs : List (Option Accepted)) (kept : KeptRun) (r : OpenRun) : Type 0 where
   pub accepted : Accepted
@@ -51,14 +51,14 @@ StandsForAnyRun programs None (Some r) = ⊥
 StandsForAnyRun programs (Some kept) None = ⊥
 StandsForAnyRun programs (Some kept) (Some r) = StandsForRun programs kept r
 
--- A kept tenant stands for one of the system: at each place their programs are the same, each of which was
+-- A kept tenant stands for one of the system: at each index their programs are the same, each of which was
 -- accepted, and the maps that it names are the tenant's with its shapes; and so are their open runs.
 pub record StandsForTenant (kept : TenantView) (tenant : Tenant) : Type 0 where
   pub programs : tenant.programs ≡ map (option_map (λ accepted. accepted.subject)) kept.programs
   pub verified : EachProgram IsVerified kept.programs
   pub shapes : EachProgram (λ accepted. HaveShapes (named_shapes accepted.subject) tenant.maps) kept.programs
   pub run : StandsForAnyRun kept.programs kept.run tenant.run
-  pub meets : IsTenant tenant
+  pub fulfils : IsTenant tenant
 
 -- what is recorded of the tenant t in the memory
 abbrev pub recorded_of : Sharing → ℕ → Tenant → Recorded
@@ -83,18 +83,6 @@ pub record StandsForMemory (memory : MemoryState) (x : System) : Type 0 where
 pub record StandsForSystem (view : HostView) (x : System) : Type 0 where
   pub memory : StandsForMemory view.memory x
   pub tenants : AllZip StandsForTenant view.tenants x.world
-
--- the tenant that an event names, if it names one
-abbrev pub tenant_of : Event → Option ℕ
-tenant_of (CreateMap t value_size entries mergeable) = Some t
-tenant_of (Load t text size) = Some t
-tenant_of (Begin t k context) = Some t
-tenant_of (Step t) = Some t
-tenant_of (HostUpdate t m key value) = Some t
-tenant_of (HostLookup t m key) = Some t
-tenant_of (Unload t k) = Some t
-tenant_of (DropMap t m) = Some t
-tenant_of event = None
 
 -- a refusal is a reply too
 abbrev pub reply_of : Result Reply Fault → Reply

@@ -108,7 +108,7 @@ pub record IsEnded (v : Accepted) (s : MachineState) (n t : ℕ) (number : ℕ) 
   pub owned : part after t ≡ without_run (part_in v t between here)
   pub sharing : after.sharing ≡ released between t
 
--- what a stretch of steps did, by what the run returned, if it ended
+-- what a batch of steps did, by what the run returned, if it ended
 pub data HasDone (v : Accepted) (s : MachineState) (n t : ℕ) (before : MemoryState) (run : Running) (after : MemoryState) : Option ℕ → Type 0 where
   went_on : IsOn v s n t before run after → HasDone v s n t before run after None
   answered : IsAnswered v s n t before run after → HasDone v s n t before run after None

@@ -18,15 +18,15 @@ use Rattle.interp.specs.Machine.{MachineState, Outcome, Next, start_state}
 use Rattle.interp.specs.Runs.{Reaches, Runs}
 
 -- Where a run begins, so far as it is known: with a context and the maps as they were then; or, for a run that
--- was found open, with the state that it was met in, after so many steps.
+-- was found open, with the state that it had, after so many steps.
 pub data Beginning : Type 0 where
   started : List ℕ → FlatMaps → Beginning
-  met : MachineState → ℕ → Beginning
+  found_open : MachineState → ℕ → Beginning
 
 -- so many steps in all lead a program from a beginning to an outcome
 abbrev pub Leads : List ℕ → Beginning → ℕ → Outcome → Type 0
 Leads text (started context maps) steps outcome = Runs text context maps steps outcome
-Leads text (met s before) steps outcome = (since : ℕ) × (before + since ≡ steps) × Reaches text s since outcome
+Leads text (found_open s before) steps outcome = (since : ℕ) × (before + since ≡ steps) × Reaches text s since outcome
 
 -- An open run: its program and its beginning; the state that it reached, and in how many steps.
 pub record OpenRun : Type 0 where
@@ -35,7 +35,7 @@ pub record OpenRun : Type 0 where
   pub state : MachineState
   pub steps : ℕ
 
--- a tenant: its maps and its programs by place, and its open run, if it has one
+-- a tenant: its maps and its programs by index, and its open run, if it has one
 pub record Tenant : Type 0 where
   pub maps : FlatMaps
   pub programs : List (Option Subject)
@@ -51,15 +51,15 @@ pub record System : Type 0 where
   pub sharing : Sharing
   pub frames : ℕ
 
--- the program at one of a tenant's places, if there is one
+-- the program at one of a tenant's indices, if there is one
 abbrev pub program_at : Tenant → ℕ → Option Subject
 program_at tenant k = slice_index_or tenant.programs k None
 
--- the first of a tenant's places where no program is
-abbrev pub free_place : Tenant → Option ℕ
-free_place tenant = position (λ (slot : Option Subject). is_none slot) tenant.programs
+-- the first of a tenant's indices where no program is
+abbrev pub free_program : Tenant → Option ℕ
+free_program tenant = position (λ (slot : Option Subject). is_none slot) tenant.programs
 
--- a program stands at a place, and one of its instructions, reached or not, names the map
+-- a program stands at an index, and one of its instructions, reached or not, names the map
 abbrev pub names_there : ℕ → Option Subject → Bool
 names_there m None = false
 names_there m (Some p) = names p.text m
@@ -68,7 +68,7 @@ names_there m (Some p) = names p.text m
 abbrev pub is_used : Tenant → ℕ → Bool
 is_used tenant m = list_any (names_there m) tenant.programs
 
--- a tenant of a new host has eight places for maps and eight for programs, none of them taken, and no run
+-- a tenant of a new host has eight entries for maps and eight for programs, none of them taken, and no run
 abbrev pub new_tenant : Tenant
 new_tenant = record { maps = replicate 8 None; programs = replicate 8 None; run = None }
 
@@ -87,14 +87,14 @@ pub record IsOpenRun (r : OpenRun) : Type 0 where
   pub reached : Leads r.program.text r.beginning r.steps (Next r.state)
   pub steps : r.steps ≤ instructions_before r.program.text r.state.slot
 
--- A run that begins where it was met is open, however it came there.
-abbrev pub MetIsOpen : Type 0
-MetIsOpen = (r : OpenRun) → r.beginning ≡ met r.state r.steps → r.steps ≤ instructions_before r.program.text r.state.slot → IsOpenRun r
+-- A run that begins where it was fulfilled is open, however it came there.
+abbrev pub FoundIsOpen : Type 0
+FoundIsOpen = (r : OpenRun) → r.beginning ≡ found_open r.state r.steps → r.steps ≤ instructions_before r.program.text r.state.slot → IsOpenRun r
 
--- a tenant has eight places for programs, and with an open run it has the maps of that run's state
+-- a tenant has eight entries for programs, and with an open run it has the maps of that run's state
 pub record IsTenant (tenant : Tenant) : Type 0 where
   pub maps : AreFlatMaps tenant.maps
-  pub places : length tenant.programs ≡ 8
+  pub entry_indices : length tenant.programs ≡ 8
   pub run : IfSome tenant.run IsOpenRun
   pub same : IfSome tenant.run (λ r. tenant.maps ≡ r.state.memory.maps)
 
@@ -102,7 +102,7 @@ pub record IsTenant (tenant : Tenant) : Type 0 where
 abbrev pub IsWorld : World → Type 0
 IsWorld w = (t : ℕ) → IfSome (slice_get w t) IsTenant
 
--- the maps of all tenants, those of one behind those of the other
+-- the maps of all tenants, those of one after those of the other
 abbrev pub all_maps : World → FlatMaps
 all_maps w = flat_map (λ (tenant : Tenant). tenant.maps) w
 
@@ -110,7 +110,7 @@ all_maps w = flat_map (λ (tenant : Tenant). tenant.maps) w
 abbrev pub accepted_of : Subject → Accepted
 accepted_of program = record { subject = program; table = tight_table program }
 
--- which of the pages of the tenant t are pinned, by place
+-- which of the pages of the tenant t are pinned, by index
 abbrev pub pins_of : Sharing → ℕ → List Bool
 pins_of sharing t = part_of sharing.pins (t * 2048) 2048
 

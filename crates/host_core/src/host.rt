@@ -4,15 +4,16 @@ ghost use Rattle.page_table.specs.State.{part};
 ghost use Rattle.host_types.specs.OptionTable.{AreOptions};
 ghost use Rattle.page_table.specs.Changes.{RefusesMemory};
 ghost use Rattle.page_table.specs.Limits.{AreLimits};
-ghost use Rattle.host_core.specs.World.{System, IsCovered, MetIsOpen, new_system};
+ghost use Rattle.host_core.specs.World.{System, IsCovered, FoundIsOpen, new_system};
 ghost use Rattle.host_core.specs.Happens.{Happens, IsPromised, AllHappen, StepsHappen, SetHappens, UnmergeHappens, JoinHappens, SplitHappens};
-ghost use Rattle.host_core.specs.HostView.{StandsForSystem, tenant_of, reply_of};
-ghost use Rattle.host_core.specs.declared.event.Event.TheVariants.{Step};
+ghost use Rattle.host_core.specs.HostView.{StandsForSystem, reply_of};
+ghost use Rattle.host_types.specs.Events.{tenant_of};
+ghost use Rattle.host_types.specs.declared.event.Event.TheVariants.{Step};
 
-use crate::event::{Event, Reply};
+use crate::reply::Reply;
 use crate::tenant::Tenant;
 use host_calls::{host_set, host_unmerge};
-use host_types::{Fault, MapNo, Opt, Options, Shape};
+use host_types::{Event, Fault, MapNo, Opt, Options, Shape};
 use ksm_counters::counters;
 use page_table::Memory;
 use scanner::visit;
@@ -50,15 +51,15 @@ impl Host {
         ensures refused { IfErr result (RefusesMemory frames tenants options) }
     {
         let memory = Memory::new(alloc, frames, tenants, options)?;
-        let Ok(mut places) = Vec::with_capacity(alloc, tenants as usize) else {
+        let Ok(mut entry_indices) = Vec::with_capacity(alloc, tenants as usize) else {
             return Err(Fault::OutOfMemory);
         };
         for _ in 0..tenants {
-            places.push_reserved(Tenant::new());
+            entry_indices.push_reserved(Tenant::new());
         }
         Ok(Host {
             alloc,
-            tenants: places,
+            tenants: entry_indices,
             memory,
         })
     }
@@ -106,11 +107,11 @@ impl Host {
             return None;
         }
         self.memory.facts();
-        let place = tenant as usize;
-        if place >= self.tenants.len() {
+        let entry_index = tenant as usize;
+        if entry_index >= self.tenants.len() {
             return Some(Reply::Refused(Fault::BadTenant));
         }
-        self.tenants[place].make_steps(&mut self.memory, tenant, limit)
+        self.tenants[entry_index].make_steps(&mut self.memory, tenant, limit)
     }
 
     /// The shape of a tenant's map, if it has one of this number.
@@ -126,11 +127,11 @@ impl Host {
             → (next : System) × StandsForSystem self.new next
             × Happens x (Step tenant) result next × IsPromised x (Step tenant) result next }
     {
-        let place = tenant as usize;
-        if place >= self.tenants.len() {
+        let entry_index = tenant as usize;
+        if entry_index >= self.tenants.len() {
             return Reply::Refused(Fault::BadTenant);
         }
-        self.tenants[place].step(&mut self.memory, tenant)
+        self.tenants[entry_index].step(&mut self.memory, tenant)
     }
 
     /// Lets any event happen.
@@ -153,11 +154,11 @@ impl Host {
             → (next : System) × StandsForSystem self.new next
             × Happens x event.now result next × IsPromised x event.now result next }
     {
-        let place = number as usize;
-        if place >= self.tenants.len() {
+        let entry_index = number as usize;
+        if entry_index >= self.tenants.len() {
             return Reply::Refused(Fault::BadTenant);
         }
-        self.tenants[place].apply(self.alloc, &mut self.memory, number, event)
+        self.tenants[entry_index].apply(self.alloc, &mut self.memory, number, event)
     }
 
     /// Sets an option of the scanner.
@@ -187,8 +188,8 @@ impl Host {
     {
         match event {
             Event::Visit => Reply::Visited(visit(&mut self.memory)),
-            Event::Set { option, value } => told(self.set(*option, *value)),
-            Event::Unmerge => told(self.unmerge()),
+            Event::Set { option, value } => into_reply(self.set(*option, *value)),
+            Event::Unmerge => into_reply(self.unmerge()),
             Event::Counters => Reply::Counters(counters(&self.memory)),
             Event::CreateMap { .. }
             | Event::Load { .. }
@@ -203,7 +204,7 @@ impl Host {
 }
 
 /// A refusal is a reply too.
-pub fn told(served: Result<Reply, Fault>) -> Reply
+pub fn into_reply(served: Result<Reply, Fault>) -> Reply
     ensures { result ≡ reply_of served }
 {
     match served {
@@ -221,7 +222,7 @@ pub fn lists_join()
 
 /// Each state that an open run stands for may be taken as its beginning: nothing is asked of how the run came
 /// there. This is a law about the definitions: the function does nothing.
-#[tactic(auto, using(crate::proofs::FoundOpen::met_is_open))]
+#[tactic(auto, using(crate::proofs::FoundOpen::found_is_open))]
 pub fn each_state_begins()
-    ensures met { MetIsOpen }
+    ensures found_open { FoundIsOpen }
 {}

@@ -2,11 +2,10 @@
 //! pages are merged, and the events that happen to them (this project's own rules, docs/HOST.md).
 #![tactic(auto)]
 
-mod bytes;
-mod event;
 mod host;
+mod reply;
 mod tenant;
 
-pub use bytes::Bytes;
-pub use event::{Event, Reply};
-pub use host::{Host, each_state_begins, lists_join, told};
+pub use host::{Host, each_state_begins, into_reply, lists_join};
+pub use host_types::{Bytes, Event};
+pub use reply::Reply;

@@ -3,12 +3,12 @@ ghost use Rattle.std.specs.List.{list_any};
 ghost use Rattle.verifier.specs.Verified.{Accepted};
 ghost use Rattle.host_core.specs.HostView.{names_in, steps_of};
 
-use crate::event::{Event, Reply};
-use crate::host::told;
+use crate::host::into_reply;
+use crate::reply::Reply;
 use admission::{needed, release};
-use host_calls::{host_create_map, host_lookup, host_shapes, host_update, judge};
+use host_calls::{decode_and_verify, host_create_map, host_lookup, host_shapes, host_update};
 use host_types::limits::MAX_PROGRAMS;
-use host_types::{Fault, MapNo};
+use host_types::{Event, Fault, MapNo};
 use interp::{Need, Run};
 use page_table::Memory;
 use std::alloc::Global;
@@ -16,7 +16,7 @@ use std::marker::Model;
 use tenant_runs::{TenantMaps, answer, open_run};
 use verifier::{Verified, is_context_size};
 
-/// A tenant: its eight places for programs, and its open run, if it has one. Its maps are the memory's.
+/// A tenant: its eight entries for programs, and its open run, if it has one. Its maps are the memory's.
 #[derive(Drop)]
 pub(crate) struct Tenant {
     programs: [Option<Verified>; MAX_PROGRAMS],
@@ -33,7 +33,7 @@ pub(crate) struct OpenRun {
 /// Steps that were made in one go: how many, and the reply to the last one where the run ended with it or it
 /// was refused.
 #[derive(Drop)]
-pub(crate) struct Stretch {
+pub(crate) struct Batch {
     steps: u64,
     last: Option<Reply>,
 }
@@ -48,9 +48,10 @@ impl Model for Tenant {
 
 impl Tenant {
     ghost use Rattle.std.specs.Prelude.{◌≡◌, Some, IsSome, ◌<◌, ◌≤◌};
-    ghost use Rattle.host_core.specs.declared.event.Event.TheVariants.{CreateMap, Load, Begin, Step, HostUpdate, HostLookup, Unload, DropMap};
+    ghost use Rattle.host_types.specs.declared.event.Event.TheVariants.{CreateMap, Load, Begin, Step, HostUpdate, HostLookup, Unload, DropMap};
     ghost use Rattle.host_core.specs.World.{new_tenant};
-    ghost use Rattle.host_core.specs.HostView.{StandsForTenant, IsKept, IsServed, HasMadeSteps, HasCounted, reply_of, tenant_of};
+    ghost use Rattle.host_core.specs.HostView.{StandsForTenant, IsKept, IsServed, HasMadeSteps, HasCounted, reply_of};
+    ghost use Rattle.host_types.specs.Events.{tenant_of};
 
     pub(crate) fn new() -> Tenant
         ensures { StandsForTenant result new_tenant }
@@ -73,7 +74,7 @@ impl Tenant {
         requires kept { IsKept number self.old memory.old }
         ensures { IsServed number self.old memory.old event.now result self.new memory.new }
     {
-        told(self.serve(alloc, memory, number, event))
+        into_reply(self.serve(alloc, memory, number, event))
     }
 
     /// Serves an event; a refusal is an error.
@@ -140,7 +141,7 @@ impl Tenant {
         Ok(Reply::Map(map))
     }
 
-    /// Loads a program's text to the first free place.
+    /// Loads a program's text to the first free entry.
     fn load(
         &mut self,
         alloc: Global,
@@ -155,17 +156,17 @@ impl Tenant {
         if self.run.is_some() {
             return Err(Fault::Busy);
         }
-        let Some(place) = first_free(self.programs.as_slice()) else {
+        let Some(entry_index) = first_free(self.programs.as_slice()) else {
             return Err(Fault::TooManyPrograms);
         };
         if !is_context_size(context_size) {
             return Err(Fault::BadContext);
         }
         let shapes = host_shapes(memory, number);
-        let program = judge(alloc, shapes.as_slice(), text, context_size)?;
+        let program = decode_and_verify(alloc, shapes.as_slice(), text, context_size)?;
         memory.facts();
-        self.programs[place] = Some(program);
-        Ok(Reply::Program(place as u32))
+        self.programs[entry_index] = Some(program);
+        Ok(Reply::Program(entry_index as u32))
     }
 
     /// Opens a run of a program, with the frames that it may need.
@@ -229,7 +230,7 @@ impl Tenant {
         Ok(Reply::Value(value.into()))
     }
 
-    /// Takes a program from its place.
+    /// Takes a program from its index.
     fn unload(&mut self, memory: &Memory, number: u32, program: u32) -> Result<Reply, Fault>
         requires kept { IsKept number self.old memory.now }
         ensures { IsServed number self.old memory.now (Unload number program) (reply_of result) self.new memory.now }
@@ -253,7 +254,7 @@ impl Tenant {
         if self.run.is_some() {
             return Err(Fault::Busy);
         }
-        // A map that isn't there is told before its use.
+        // A map that isn't there is reported before its use.
         if memory.shape(number, map).is_none() {
             return Err(Fault::NoMap);
         }
@@ -302,18 +303,18 @@ impl Tenant {
     {
         let mut left = limit;
         while left > 0 {
-            let stretch = self.stretch(memory, number, left);
-            if stretch.last.is_some() {
-                return stretch.last;
+            let batch = self.batch(memory, number, left);
+            if batch.last.is_some() {
+                return batch.last;
             }
-            left -= stretch.steps;
+            left -= batch.steps;
         }
         None
     }
 
     /// Makes steps of the open run in one go, at most up to a limit: all up to the first that asks for an update or a
     /// deletion in the tenant's maps or with which the run ends.
-    fn stretch(&mut self, memory: &mut Memory, number: u32, limit: u64) -> Stretch
+    fn batch(&mut self, memory: &mut Memory, number: u32, limit: u64) -> Batch
         requires some { 0 < limit }
         requires kept { IsKept number self.old memory.old }
         ensures some { 0 < result.steps }
@@ -324,7 +325,7 @@ impl Tenant {
         memory.facts();
         let before = steps_made(&self.run);
         let Some(open) = &mut self.run else {
-            return Stretch {
+            return Batch {
                 steps: 1,
                 last: Some(Reply::Refused(Fault::NoRun)),
             };
@@ -336,12 +337,12 @@ impl Tenant {
         match ended {
             Some(ret) => {
                 self.run = None;
-                Stretch {
+                Batch {
                     steps: made,
                     last: Some(Reply::Ended { ret, steps }),
                 }
             }
-            None => Stretch {
+            None => Batch {
                 steps: made,
                 last: None,
             },
@@ -354,8 +355,8 @@ impl OpenRun {
     ghost use Rattle.verifier.specs.Verified.{Accepted};
     ghost use Rattle.interp.specs.Machine.{MachineState};
     ghost use Rattle.page_table.specs.State.{part};
-    ghost use Rattle.page_table.specs.Changes.{IsKeptBut};
-    ghost use Rattle.tenant_runs.specs.Meeting.{KeepsSizes};
+    ghost use Rattle.page_table.specs.Changes.{OtherTenantsUnchanged};
+    ghost use Rattle.tenant_runs.specs.Fulfilment.{KeepsSizes};
     ghost use Rattle.host_core.specs.Stretches.{IsUnderWayAt, HasMadeStep, HasAdvanced};
     ghost use Rattle.host_core.specs.declared.tenant.OpenRun.{OpenRun as KeptRun};
 
@@ -371,7 +372,7 @@ impl OpenRun {
         ensures program { self.new.program ≡ self.old.program }
         ensures advanced { (v : Accepted) (s : MachineState) → IsUnderWayAt programs.now self.old v s (part memory.old tenant)
             → HasAdvanced v s tenant 1 self.old.run memory.old result self.new.run memory.new }
-        ensures others { IsKeptBut tenant memory.old memory.new }
+        ensures others { OtherTenantsUnchanged tenant memory.old memory.new }
         ensures sizes { KeepsSizes memory.old memory.new }
     {
         let Some(program) = &programs[self.program as usize] else {
@@ -386,13 +387,13 @@ impl OpenRun {
                 return None;
             }
         }
-        self.settle(program, memory, tenant, need)
+        self.finish_step(program, memory, tenant, need)
     }
 
     /// Does what is left of a step that was made: what it asks, or its end, and what is reserved afterwards. It stands apart,
     /// so that a step of which nothing is left keeps nothing at hand for it.
     #[inline(never)]
-    fn settle(
+    fn finish_step(
         &mut self,
         program: &Verified,
         memory: &mut Memory,
@@ -405,7 +406,7 @@ impl OpenRun {
         ensures advanced { (programs : List (Option Accepted)) (kept : KeptRun) (s : MachineState)
             → HasMadeStep programs kept program.now s need self.old.run (part memory.old tenant)
             → HasAdvanced program.now s tenant 1 kept.run memory.old result self.new.run memory.new }
-        ensures others { IsKeptBut tenant memory.old memory.new }
+        ensures others { OtherTenantsUnchanged tenant memory.old memory.new }
         ensures sizes { KeepsSizes memory.old memory.new }
     {
         memory.facts();
@@ -426,7 +427,7 @@ impl OpenRun {
         }
     }
 
-    /// Makes steps up to a limit, and none behind the first that asks for an update or a deletion in the tenant's maps:
+    /// Makes steps up to a limit, and none after the first that asks for an update or a deletion in the tenant's maps:
     /// what the run returned, where it ended. What is reserved afterwards is what the rest of the run may need.
     fn advance(
         &mut self,
@@ -440,7 +441,7 @@ impl OpenRun {
         ensures program { self.new.program ≡ self.old.program }
         ensures advanced { (v : Accepted) (s : MachineState) → IsUnderWayAt programs.now self.old v s (part memory.old number)
             → HasAdvanced v s number limit self.old.run memory.old result self.new.run memory.new }
-        ensures others { IsKeptBut number memory.old memory.new }
+        ensures others { OtherTenantsUnchanged number memory.old memory.new }
         ensures sizes { KeepsSizes memory.old memory.new }
     {
         let Some(program) = &programs[self.program as usize] else {
@@ -471,20 +472,20 @@ impl OpenRun {
     }
 }
 
-/// The program at a place, if there is one.
-fn program_of(programs: &[Option<Verified>], place: u32) -> Option<&Verified>
-    ensures { option_copied result ≡ slice_index_or programs.now place None }
+/// The program at an index, if there is one.
+fn program_of(programs: &[Option<Verified>], entry_index: u32) -> Option<&Verified>
+    ensures { option_copied result ≡ slice_index_or programs.now entry_index None }
 {
-    match programs.get(place as usize) {
+    match programs.get(entry_index as usize) {
         Some(program) => program.as_ref(),
         None => None,
     }
 }
 
-/// The first place where no program is.
+/// The first index where no program is.
 fn first_free(programs: &[Option<Verified>]) -> Option<usize>
     ensures first { result ≡ position (λ (slot : Option Accepted). is_none slot) programs.now }
-    ensures inside { IfSome result (λ place. place < length programs.now) }
+    ensures inside { IfSome result (λ entry_index. entry_index < length programs.now) }
 {
     programs.iter().position(|slot| slot.is_none())
 }
@@ -496,7 +497,7 @@ fn is_used(programs: &[Option<Verified>], map: MapNo) -> bool
     programs.iter().any(|slot| names(slot, map))
 }
 
-/// Whether a program stands at a place and names a map.
+/// Whether a program stands at an index and names a map.
 fn names(slot: &Option<Verified>, map: MapNo) -> bool
     ensures { result ≡ names_in map slot.now }
 {

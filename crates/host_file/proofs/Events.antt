@@ -39,7 +39,7 @@ module _ (all left more : Items) (ms : Members) (next : left ≡ item (table ms)
       → (rest : List Command) → AreEvents more rest → AreEvents all ((commands ++ command ∷ []) ++ rest)
   one_more commands command is known = λ rest are. rw append_assoc (known (command ∷ rest) (rw next (is, are)))
 
-  -- where all ask for commands, those behind the next do
+  -- where all ask for commands, those after the next do
   pub left_ask : ((commands : List Command) → AreEvents all commands → (rest : List Command) × AreEvents left rest)
       → (commands : List Command) → AreEvents all commands → (rest : List Command) × AreEvents more rest
   left_ask known = λ commands are.

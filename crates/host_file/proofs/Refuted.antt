@@ -1,8 +1,8 @@
 -- A document that is called bad means nothing: from what a table lacks to what it can't be.
 use Rattle.std.proofs.Common.{◌≡◌, ◌∷◌, [], ℕ, List, refl, ap, arith, ◌+◌, ◌*◌, subst, Option, Some, None, option_map, MatchOption, IfErr, Result, Ok, Err}
 use Rattle.toml.specs.Data.{Data, array, table, Items, Members}
-use Rattle.host_core.specs.declared.event.Event.{Event}
-use Rattle.host_core.specs.declared.event.Event.TheVariants as event
+use Rattle.host_types.specs.declared.event.Event.{Event}
+use Rattle.host_types.specs.declared.event.Event.TheVariants as event
 use Rattle.host_types.specs.declared.options.Options.{Options}
 use Rattle.host_types.specs.OptionTable.{default_options}
 use Rattle.host_file.specs.declared.key.Key.TheVariants as key

@@ -4,8 +4,8 @@ use Rattle.host_types.specs.declared.options.Opt.{Opt}
 use Rattle.host_types.specs.declared.options.Options.{Options}
 use Rattle.host_types.specs.OptionTable.{default_options, option_name}
 use Rattle.hex.specs.Hex.{decode_of}
-use Rattle.host_core.specs.declared.event.Event.{Event}
-use Rattle.host_core.specs.declared.event.Event.TheVariants.{CreateMap, Load, Begin, HostUpdate, HostLookup, Set, Unmerge, Counters, Unload, DropMap}
+use Rattle.host_types.specs.declared.event.Event.{Event}
+use Rattle.host_types.specs.declared.event.Event.TheVariants.{CreateMap, Load, Begin, HostUpdate, HostLookup, Set, Unmerge, Counters, Unload, DropMap}
 use Rattle.toml.specs.Parse.{parse_document}
 use Rattle.toml.specs.Data.{Data, string, integer, boolean, array, table, Items, no_items, item, Members, no_members, member, get_member}
 use Rattle.host_file.specs.declared.key.Key.{Key}

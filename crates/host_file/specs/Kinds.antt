@@ -1,4 +1,4 @@
--- What an event's table must have by what it does: the other half of `IsEvent`, which tells when a table is no event's.
+-- What an event's table must have by what it does: the other half of `IsEvent`, which says when a table is no event's.
 use Rattle.std.specs.Prelude.{ℕ, List, [], ◌∷◌, codes, Option, Bool, true}
 use Rattle.host_types.specs.declared.options.Opt.{Opt}
 use Rattle.toml.specs.Data.{Members}

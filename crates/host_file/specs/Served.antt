@@ -1,7 +1,7 @@
 -- Which host files are served (docs/HOST.md): those that ask for nothing but what threads beside each other can do.
 use Rattle.std.specs.Prelude.{ℕ, ◌<◌}
-use Rattle.host_core.specs.declared.event.Event.{Event}
-use Rattle.host_core.specs.declared.event.Event.TheVariants.{CreateMap, Load, Begin, HostUpdate, HostLookup, Set}
+use Rattle.host_types.specs.declared.event.Event.{Event}
+use Rattle.host_types.specs.declared.event.Event.TheVariants.{CreateMap, Load, Begin, HostUpdate, HostLookup, Set}
 use Rattle.host_file.specs.declared.command.Command.{Command}
 use Rattle.host_file.specs.declared.command.Command.TheVariants.{Apply, Run, Visit}
 

@@ -1,6 +1,6 @@
 ghost use Rattle.std.specs.Prelude.{◌≡◌};
 
-use host_core::Event;
+use host_types::Event;
 use std::marker::Model;
 
 /// What an event of a host file asks for.

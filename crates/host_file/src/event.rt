@@ -9,8 +9,7 @@ use crate::command::Command;
 use crate::fault::{Cause, FileFault};
 use crate::key::Key;
 use crate::section::Section;
-use host_core::Event;
-use host_types::Opt;
+use host_types::{Event, Opt};
 use std::alloc::Global;
 use terminal_text::quoted;
 

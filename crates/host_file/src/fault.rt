@@ -47,15 +47,15 @@ impl<T: Drop> From<AllocFailed<T>> for FileFault {
 
 /// What is wrong with a host file, and where.
 #[derive(Debug, Drop, Error)]
-#[error("{place}{cause}")]
+#[error("{location}{cause}")]
 pub struct BadFile {
-    pub place: Place,
+    pub location: Location,
     pub cause: Cause,
 }
 
-/// A place in a host file.
+/// A location in a host file.
 #[derive(Clone, Copy, Debug, PartialEq, Eq)]
-pub enum Place {
+pub enum Location {
     /// The document itself.
     Document,
     /// The table of the options.
@@ -64,7 +64,7 @@ pub enum Place {
     Event(usize),
 }
 
-/// What is wrong at a place of a host file.
+/// What is wrong at a location of a host file.
 #[derive(Debug, Drop, Error)]
 pub enum Cause {
     #[error("it has more than 16777216 bytes")]
@@ -103,12 +103,12 @@ pub enum Cause {
     NoTenant(u32),
 }
 
-impl fmt::Display for Place {
+impl fmt::Display for Location {
     fn fmt<W: fmt::Write>(&self, f: &mut fmt::Formatter<W>) -> fmt::Result {
         match self {
-            Place::Document => Ok(()),
-            Place::Options => write!(f, "options: "),
-            Place::Event(number) => write!(f, "event {number}: "),
+            Location::Document => Ok(()),
+            Location::Options => write!(f, "options: "),
+            Location::Event(number) => write!(f, "event {number}: "),
         }
     }
 }

@@ -6,7 +6,7 @@ ghost use Rattle.host_file.specs.Section.{members_of};
 
 use crate::command::Commands;
 use crate::event::command_of;
-use crate::fault::{BadFile, Cause, FileFault, Place};
+use crate::fault::{BadFile, Cause, FileFault, Location};
 use crate::key::Key;
 use crate::section::Section;
 use crate::size::require_small;
@@ -36,11 +36,11 @@ pub fn read_file(alloc: Global, text: &str) -> Result<HostFile, FileFault>
         Ok(table) => table,
         Err(error) if error.is_memory() => return Err(FileFault::OutOfMemory(AllocError)),
         Err(error) => return Err(FileFault::Bad(BadFile {
-            place: Place::Document,
+            location: Location::Document,
             cause: Cause::NotToml(error),
         })),
     };
-    host_file(alloc, &Section::new(&table, Place::Document))
+    host_file(alloc, &Section::new(&table, Location::Document))
 }
 
 fn host_file(alloc: Global, document: &Section<'_>) -> Result<HostFile, FileFault>
@@ -66,7 +66,7 @@ fn options(alloc: Global, document: &Section<'_>) -> Result<Options, FileFault>
 {
     match document.table(Key::Options)? {
         None => Ok(Options::standard()),
-        Some(table) => table_options(alloc, &Section::new(table, Place::Options)),
+        Some(table) => table_options(alloc, &Section::new(table, Location::Options)),
     }
 }
 
@@ -114,7 +114,7 @@ fn array_commands(
         let Value::Table(table) = value else {
             return Err(document.bad(Cause::NotTables(Key::Event)));
         };
-        let event = Section::new(table, Place::Event(number));
+        let event = Section::new(table, Location::Event(number));
         commands.push(command_of(alloc, &event)?)?;
     }
     Ok(Commands::from(commands))

@@ -12,7 +12,7 @@ mod serving;
 mod size;
 
 pub use command::{Command, Commands};
-pub use fault::{BadFile, Cause, FileFault, Place};
+pub use fault::{BadFile, Cause, FileFault, Location};
 pub use file::{HostFile, read_file};
 pub use key::Key;
 pub use serving::require_served;

@@ -6,10 +6,10 @@ ghost use Rattle.host_file.specs.HostFile.{HasAnyNumber, HasFlagOr, HasHex, HasN
 ghost use Rattle.host_file.specs.Section.{members_of};
 ghost use Rattle.host_file.specs.declared.fault.FileFault.TheVariants.{Bad};
 
-use crate::fault::{BadFile, Cause, FileFault, Place};
+use crate::fault::{BadFile, Cause, FileFault, Location};
 use crate::key::Key;
 use hex::FromHexError;
-use host_core::Bytes;
+use host_types::Bytes;
 use std::alloc::{AllocError, Global};
 use terminal_text::quoted;
 use toml::value::Array;
@@ -19,23 +19,23 @@ use toml::{Table, Value};
 #[derive(Drop)]
 pub struct Section<'a> {
     table: &'a Table,
-    place: Place,
+    location: Location,
 }
 
 impl<'a> Section<'a> {
-    pub fn new(table: &'a Table, place: Place) -> Self
+    pub fn new(table: &'a Table, location: Location) -> Self
         ensures table { members_of result ≡ table_view table.now }
-        ensures place { result.place ≡ place }
+        ensures location { result.location ≡ location }
     {
-        Section { table, place }
+        Section { table, location }
     }
 
     /// The fault that this is wrong here.
     pub fn bad(&self, cause: Cause) -> FileFault
-        ensures { result ≡ Bad (record { place = self.now.place; cause = cause }) }
+        ensures { result ≡ Bad (record { location = self.now.location; cause = cause }) }
     {
         FileFault::Bad(BadFile {
-            place: self.place,
+            location: self.location,
             cause,
         })
     }

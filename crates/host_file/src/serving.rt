@@ -3,9 +3,9 @@ ghost use Rattle.host_file.specs.Faults.{IsBad};
 ghost use Rattle.host_file.specs.Served.{IsServedCommand, IsServedEvent};
 
 use crate::command::Command;
-use crate::fault::{BadFile, Cause, FileFault, Place};
+use crate::fault::{BadFile, Cause, FileFault, Location};
 use crate::file::HostFile;
-use host_core::Event;
+use host_types::Event;
 
 /// Refuses a host file that asks for what isn't served: steps that are made one by one, what all tenants
 /// would have to wait for, or a tenant that isn't there.
@@ -17,7 +17,7 @@ pub fn require_served(file: &HostFile) -> Result<(), FileFault>
     for (number, command) in file.commands.as_slice().iter().enumerate() {
         if let Err(cause) = served(file.tenants, command) {
             return Err(FileFault::Bad(BadFile {
-                place: Place::Event(number),
+                location: Location::Event(number),
                 cause,
             }));
         }

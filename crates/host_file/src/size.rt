@@ -1,10 +1,10 @@
 ghost use Rattle.std.specs.Prelude.{◌≡◌, count_by, IfErr, OnOk};
 ghost use Rattle.host_file.specs.Faults.{Refutes};
 ghost use Rattle.host_file.specs.declared.fault.FileFault.TheVariants.{Bad};
-ghost use Rattle.host_file.specs.declared.fault.Place.TheVariants.{Document};
+ghost use Rattle.host_file.specs.declared.fault.Location.TheVariants.{Document};
 ghost use Rattle.host_file.specs.HostFile.{IsSmall, is_equals, opens};
 
-use crate::fault::{BadFile, Cause, FileFault, Place};
+use crate::fault::{BadFile, Cause, FileFault, Location};
 
 /// The most bytes that a host file may have. A longer one is bad.
 pub const MAX_BYTES: usize = 16 << 20;
@@ -33,10 +33,10 @@ pub(crate) fn require_small(text: &str) -> Result<(), FileFault>
 }
 
 fn too_much(cause: Cause) -> FileFault
-    ensures { result ≡ Bad (record { place = Document; cause = cause }) }
+    ensures { result ≡ Bad (record { location = Document; cause = cause }) }
 {
     FileFault::Bad(BadFile {
-        place: Place::Document,
+        location: Location::Document,
         cause,
     })
 }

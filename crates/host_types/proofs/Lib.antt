@@ -1,5 +1,5 @@
 pub mod Lists
-pub mod Bytes
+pub mod LittleEndian
 pub mod Pages
 pub mod Unmerging
 pub mod Without

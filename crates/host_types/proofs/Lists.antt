@@ -27,20 +27,20 @@ part-with_part_same xs at part size e h =
 pub part-with_part_before : {X : Type 0} (xs part : List X) (from size m : ℕ) → size ≤ m → from + m ≤ length xs → part_of (with_part xs (from + m) part) from size ≡ part_of xs from size
 unfolding part_of with_part
 part-with_part_before xs part from size m small h =
-    let behind : List _ = part ++ drop (from + m + length part) xs in
+    let following : List _ = part ++ drop (from + m + length part) xs in
     let front = length-take-le (from + m) xs h in
     let left = length-drop from xs in
     let middle = length-take-le m (drop from xs) (omega arith) in
     ap (take size) (ap (drop from) (append_assoc (take (from + m) xs) part (drop (from + m + length part) xs))
-    ∙ drop-append-le from (take (from + m) xs) behind (omega arith)
-    ∙ ap (λ l. l ++ behind) (drop-take from m xs))
-    ∙ take-append-le size (take m (drop from xs)) behind (omega arith)
+    ∙ drop-append-le from (take (from + m) xs) following (omega arith)
+    ∙ ap (λ l. l ++ following) (drop-take from m xs))
+    ∙ take-append-le size (take m (drop from xs)) following (omega arith)
     ∙ take-take size m (drop from xs) small
 
--- a part behind the one that was put in
-pub part-with_part_behind : {X : Type 0} (xs : List X) (at : ℕ) (part : List X) (size m : ℕ) → at + length part ≤ length xs → part_of (with_part xs at part) (at + length part + m) size ≡ part_of xs (at + length part + m) size
+-- a part after the one that was put in
+pub part-with_part_following : {X : Type 0} (xs : List X) (at : ℕ) (part : List X) (size m : ℕ) → at + length part ≤ length xs → part_of (with_part xs at part) (at + length part + m) size ≡ part_of xs (at + length part + m) size
 unfolding part_of with_part
-part-with_part_behind xs at part size m h =
+part-with_part_following xs at part size m h =
     let front : length (take at xs ++ part) ≡ at + length part = simp (length-append, length-take) (omega arith) in
     let rest = drop_at (take at xs ++ part) (drop (at + length part) xs) (at + length part) front in
     ap (take size) (sym (drop-drop m (at + length part) (take at xs ++ part ++ drop (at + length part) xs)) ∙ ap (drop m) rest ∙ drop-drop m (at + length part) xs)

@@ -4,7 +4,7 @@ use Rattle.std.proofs.lemmas.List.{get_or-set_same, get_or-set_other, length-set
 use Rattle.std.proofs.lemmas.Bool.Decides.{eqb_tells}
 use Rattle.host_types.specs.declared.status.Status.TheVariants.{Volatile}
 use Rattle.host_types.specs.Sharing.{Sharing, PageState, state_at, is_shared, is_shared_page, broken, broken_page}
-use Rattle.host_types.specs.Pins.{pinned, broken_by, PinsOwn, PinsFit}
+use Rattle.host_types.specs.Pins.{pinned, broken_for_run, PinsOwn, PinsFit}
 use Rattle.host_types.proofs.Unmerging.{broken-own, broken-shared, state_inside}
 
 -- a page that is there and Volatile
@@ -106,8 +106,8 @@ fit-broken s i fit = by_test (is_shared_page (state_at s i)) refl
     by_test false own = rw (broken-own s i own) fit
 
 -- and by an open run, which pins it
-pub fit-by : (running : Bool) (s : Sharing) (i : ℕ) → PinsFit s.pages s.pins → PinsFit (broken_by running s i).pages (broken_by running s i).pins
-unfolding broken_by
+pub fit-by : (running : Bool) (s : Sharing) (i : ℕ) → PinsFit s.pages s.pins → PinsFit (broken_for_run running s i).pages (broken_for_run running s i).pins
+unfolding broken_for_run
 fit-by false s i fit = fit-broken s i fit
 fit-by true s i fit = by_test (is_shared_page (state_at s i)) refl
   where

@@ -8,7 +8,7 @@ use Rattle.std.proofs.lemmas.Bool.Decides.{nat_tests, eqb_tells, leb_tells}
 use Rattle.std.proofs.Math.Bool.{or-false}
 use Rattle.host_types.specs.declared.status.Status.{Status}
 use Rattle.host_types.specs.declared.status.Status.TheVariants.{New, Volatile, Waiting, Grouped, Zero}
-use Rattle.host_types.specs.Sharing.{Sharing, PageState, state_at, is_shared, is_shared_page, is_among, without, left_by, is_in_company, broken, broken_page, break_cost, broken_from, cost_from, cost_of}
+use Rattle.host_types.specs.Sharing.{Sharing, PageState, state_at, is_shared, is_shared_page, is_among, without, left_by, is_in_company, broken, broken_page, break_cost, pages_broken, cost_from, cost_of}
 use Rattle.host_types.proofs.Without.{one_when, times, without-length, times-gone, times-kept, kept_group, some_kept}
 use Rattle.host_types.specs.Unmerging.{unmerged, members, counted_by, zeros_at, zero_pages, unmerge_need, SharesNothing}
 
@@ -33,7 +33,7 @@ pub record AreListed (s : Sharing) : Type 0 where
   pub some : AreSome s.groups
   pub once : (i : ℕ) → listed i s.groups ≡ grouped_at (state_at s i)
 
--- where it doesn't stand in a group, it isn't the first one there, and doesn't stand behind that
+-- where it doesn't stand in a group, it isn't the first one there, and doesn't stand after that
 none-here : (i j : ℕ) (g : List ℕ) → times i (j ∷ g) ≡ 0 → ((j == i) ≡ false) × (times i g ≡ 0)
 none-here i j g h = by_test (j == i) refl
   where
@@ -160,8 +160,8 @@ left-one i (g ∷ gs) are one = by_times (times i g) refl (left-one i gs are.1)
         ap (λ (b : Bool). b && nat_lt 1 (length g) || list_any (has_company i) gs) (among-some i g some)
         ∙ ap (λ (b : Bool). nat_lt 1 (length g) || b) (company-none i gs none)
         ∙ or-false (nat_lt 1 (length g)) in
-        let told = ap one_when company in
-        omega (arith, count, first, rest, told)
+        let answered = ap one_when company in
+        omega (arith, count, first, rest, answered)
 
     another : times i g ≡ 0 → (listed i gs ≡ 1 → length (left_by i gs) + 1 ≡ length gs + one_when (list_any (has_company i) gs))
         → length (left_by i (g ∷ gs)) + 1 ≡ suc (length gs) + one_when (list_any (has_company i) (g ∷ gs))
@@ -170,8 +170,8 @@ left-one i (g ∷ gs) are one = by_times (times i g) refl (left-one i gs are.1)
         let kept = ap length (ap (λ (h : List ℕ). kept_group h (left_by i gs)) (without-none i g none) ∙ some_kept g (left_by i gs) are.0) in
         let company : list_any (has_company i) (g ∷ gs) ≡ list_any (has_company i) gs =
         ap (λ (b : Bool). b && nat_lt 1 (length g) || list_any (has_company i) gs) (among-none i g none) in
-        let told = ap one_when company in
-        omega (arith, rest, kept, told)
+        let answered = ap one_when company in
+        omega (arith, rest, kept, answered)
 
     by_times : (n : ℕ) → times i g ≡ n → (listed i gs ≡ 1 → length (left_by i gs) + 1 ≡ length gs + one_when (list_any (has_company i) gs))
         → length (left_by i (g ∷ gs)) + 1 ≡ suc (length gs) + one_when (list_any (has_company i) (g ∷ gs))
@@ -200,7 +200,7 @@ unfolding break_cost
 cost-none s i here =
     ap (λ (x : Option PageState). unwrap_or (option_map (λ (state : PageState). cost_of (is_in_company s i) state.status) x) 0) here
 
--- a page that is there has a place
+-- a page that is there has an index
 pub state_inside : (xs : List (Option PageState)) (i : ℕ) (state : PageState) → slice_index_or xs i None ≡ Some state → i < length xs
 state_inside [] i state e = absurd (cc)
 state_inside (x ∷ xs) zero state e = omega arith
@@ -300,8 +300,8 @@ breaks s i are = by_state (state_at s i) refl
     by_state (Some state) e = breaks-there s i state are e
 
 -- what is left of the need after some breaks
-pub need-from : (s : Sharing) (i n : ℕ) → AreListed s → AreListed (broken_from s i n) × (unmerge_need (broken_from s i n) + cost_from s i n ≡ unmerge_need s)
-unfolding broken_from cost_from
+pub need-from : (s : Sharing) (i n : ℕ) → AreListed s → AreListed (pages_broken s i n) × (unmerge_need (pages_broken s i n) + cost_from s i n ≡ unmerge_need s)
+unfolding pages_broken cost_from
 need-from s i zero are = (are, omega arith)
 need-from s i (suc n) are =
     let one = breaks s i are in
@@ -334,13 +334,13 @@ unshared-kept s i j own = ⊎_elim (λ same. subst (IsUnshared (broken s i)) (sy
         subst (λ (t : Sharing). IsUnshared t j) (sym (broken-shared s i shared)) (ap is_shared_page (get_or-set_other s.pages i j (option_map broken_page (state_at s i)) None ne) ∙ own)
     apart ne false unshared = subst (λ (t : Sharing). IsUnshared t j) (sym (broken-own s i unshared)) own
 
-unshared-from : (s : Sharing) (i n j : ℕ) → IsUnshared s j → IsUnshared (broken_from s i n) j
-unfolding broken_from
+unshared-from : (s : Sharing) (i n j : ℕ) → IsUnshared s j → IsUnshared (pages_broken s i n) j
+unfolding pages_broken
 unshared-from s i zero j own = own
 unshared-from s i (suc n) j own = unshared-from (broken s i) (i + 1) n j (unshared-kept s i j own)
 
-unshared-among : (s : Sharing) (i n j : ℕ) → i ≤ j → j < i + n → IsUnshared (broken_from s i n) j
-unfolding broken_from
+unshared-among : (s : Sharing) (i n j : ℕ) → i ≤ j → j < i + n → IsUnshared (pages_broken s i n) j
+unfolding pages_broken
 unshared-among s i zero j above below = absurd (omega arith)
 unshared-among s i (suc n) j above below =
     ⊎_elim (λ same. unshared-from (broken s i) (i + 1) n j (subst (IsUnshared (broken s i)) (sym same.1) (unshared-here s i)))
@@ -353,7 +353,7 @@ beyond (x ∷ xs) zero h = absurd (omega arith)
 beyond (x ∷ xs) (suc j) h = beyond xs j (omega arith)
 
 -- after the breaks of all pages no page shares a frame
-all_unshared : (s : Sharing) (j : ℕ) → IsUnshared (broken_from s 0 (length s.pages)) j
+all_unshared : (s : Sharing) (j : ℕ) → IsUnshared (pages_broken s 0 (length s.pages)) j
 all_unshared s j =
     ⊎_elim (λ below. unshared-among s 0 (length s.pages) j (omega arith) (omega (arith, below.1)))
     (λ above. unshared-from s 0 (length s.pages) j (ap is_shared_page (beyond s.pages j (omega (arith, above.1)))))
@@ -402,7 +402,7 @@ no_zeros (x ∷ xs) h =
 
 module _ (s : Sharing) (are : AreListed s) where
   abbrev last : Sharing
-  last = broken_from s 0 (length s.pages)
+  last = pages_broken s 0 (length s.pages)
 
   groups_gone : last.groups ≡ []
   groups_gone =
@@ -418,7 +418,7 @@ module _ (s : Sharing) (are : AreListed s) where
       let whole = (need-from s 0 (length s.pages) are).1 in
       omega (arith, none, zeros, whole)
 
-  pub broken_share_nothing : SharesNothing (broken_from s 0 (length s.pages))
+  pub broken_share_nothing : SharesNothing (pages_broken s 0 (length s.pages))
   broken_share_nothing = record { groups = groups_gone; pages = all_unshared s }
 
   pub unmerged_shares_nothing : SharesNothing (unmerged s)

@@ -5,7 +5,7 @@ use Rattle.host_types.specs.declared.visited.Visited.TheVariants as visited
 use Rattle.host_types.specs.Pages.{zero_page, fingerprint_of}
 use Rattle.host_types.specs.Pins.{is_pinned}
 use Rattle.host_types.specs.Sharing.{Sharing, PageState, state_at, is_shared, paired, zeroed}
-use Rattle.host_types.specs.Visits.{Contents, visit, visit_of, begun, moved_on, page_to_visit, next_from, decided, looked_at, has_open, joined, changed, had, met, find_partner, waits}
+use Rattle.host_types.specs.Visits.{Contents, visit, visit_of, begun, moved_on, page_to_visit, next_from, decided, looked_at, has_open, joined, changed, had, paired_or_waiting, find_partner, waits}
 
 -- the scanner is stopped
 pub visit-stopped : (contents : Contents) (s : Sharing) → (s.options.run == 1) ≡ false → visit contents s ≡ (visited.Idle, s)
@@ -60,18 +60,18 @@ module _ (contents : Contents) (s : Sharing) (i : ℕ) (last : Option ℕ) where
   unfolding looked_at
   looked-zeroed h k z = rw (h, k, z) refl
 
-  pub looked-met : has_open contents s i ≡ false → had last (fingerprint_of (contents i)) ≡ true → (s.options.use_zero_pages == 1 && bytes_eq (contents i) zero_page) ≡ false
-      → looked_at contents s i last ≡ met s i (fingerprint_of (contents i)) (find_partner contents s i (fingerprint_of (contents i)))
+  pub looked-paired_or_waiting : has_open contents s i ≡ false → had last (fingerprint_of (contents i)) ≡ true → (s.options.use_zero_pages == 1 && bytes_eq (contents i) zero_page) ≡ false
+      → looked_at contents s i last ≡ paired_or_waiting s i (fingerprint_of (contents i)) (find_partner contents s i (fingerprint_of (contents i)))
   unfolding looked_at
-  looked-met h k z = rw (h, k, z) refl
+  looked-paired_or_waiting h k z = rw (h, k, z) refl
 
 -- the page and its partner
-pub met-partner : (s : Sharing) (i j fingerprint : ℕ) (found : Option (ℕ × ℕ)) → Some j ≡ option_map (λ (entry : ℕ × ℕ). entry.0) found → met s i fingerprint found ≡ (visited.Paired, paired s j i)
-unfolding met
-met-partner s i j fingerprint None e = absurd (cc)
-met-partner s i j fingerprint (Some entry) e = let same : j ≡ entry.0 = cc in rw same refl
+pub paired_or_waiting-partner : (s : Sharing) (i j fingerprint : ℕ) (found : Option (ℕ × ℕ)) → Some j ≡ option_map (λ (entry : ℕ × ℕ). entry.0) found → paired_or_waiting s i fingerprint found ≡ (visited.Paired, paired s j i)
+unfolding paired_or_waiting
+paired_or_waiting-partner s i j fingerprint None e = absurd (cc)
+paired_or_waiting-partner s i j fingerprint (Some entry) e = let same : j ≡ entry.0 = cc in rw same refl
 
-pub met-none : (s : Sharing) (i fingerprint : ℕ) (found : Option (ℕ × ℕ)) → None ≡ option_map (λ (entry : ℕ × ℕ). entry.0) found → met s i fingerprint found ≡ (visited.Waiting, waits s i fingerprint)
-unfolding met
-met-none s i fingerprint None e = refl
-met-none s i fingerprint (Some entry) e = absurd (cc)
+pub paired_or_waiting-none : (s : Sharing) (i fingerprint : ℕ) (found : Option (ℕ × ℕ)) → None ≡ option_map (λ (entry : ℕ × ℕ). entry.0) found → paired_or_waiting s i fingerprint found ≡ (visited.Waiting, waits s i fingerprint)
+unfolding paired_or_waiting
+paired_or_waiting-none s i fingerprint None e = refl
+paired_or_waiting-none s i fingerprint (Some entry) e = absurd (cc)

@@ -1,4 +1,4 @@
--- A list of places or frames without one of them, and the groups that are left then.
+-- A list of indices or frames without one of them, and the groups that are left then.
 use Rattle.std.proofs.Common.{◌≡◌, ◌≢◌, ◌∙◌, ⊎_elim, ℕ, suc, ◌+◌, ◌<◌, ◌==◌, nat_lt, not, Bool, true, false, if◌then◌else◌, List, [], ◌∷◌, length, sum_by, refl, sym, ap, arith}
 use Rattle.std.proofs.lemmas.List.Sums.{sum_by-cons}
 use Rattle.std.proofs.lemmas.Bool.Decides.{nat_tests, eqb_tells}
@@ -7,9 +7,9 @@ use Rattle.host_types.specs.Sharing.{without}
 abbrev pub one_when : Bool → ℕ
 one_when b = if b then 1 else 0
 
--- how often a place, or a frame, is listed
+-- how often an index, or a frame, is listed
 abbrev pub times : ℕ → List ℕ → ℕ
-times i places = sum_by (λ j. one_when (j == i)) places
+times i page_indices = sum_by (λ j. one_when (j == i)) page_indices
 
 pub not_equal : (i j : ℕ) → j ≢ i → (j == i) ≡ false
 not_equal i j ne = grind (arith, nat_tests)

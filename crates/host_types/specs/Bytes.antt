@@ -11,10 +11,10 @@ unfoldable pub bytes_of : ℕ → ℕ → List ℕ
 bytes_of zero number = []
 bytes_of (suc n) number = number % 256 ∷ bytes_of n (number / 256)
 
--- size elements of a list, from a place on
+-- size elements of a list, from an index on
 unfoldable pub part_of : {X : Type 0} → List X → ℕ → ℕ → List X
 part_of xs at size = take size (drop at xs)
 
--- a list with a part of it replaced, from a place on
+-- a list with a part of it replaced, from an index on
 unfoldable pub with_part : {X : Type 0} → List X → ℕ → List X → List X
 with_part xs at part = take at xs ++ part ++ drop (at + length part) xs

@@ -50,15 +50,15 @@ times_among bytes all = sum_by (λ other. if bytes_eq other bytes then 1 else 0)
 unfoldable pub repeated_among : List (List ℕ) → List (List ℕ) → ℕ
 repeated_among all some = sum_by (λ bytes. if nat_lt 1 (times_among bytes all) then 1 else 0) some
 
--- how many of some contents, which stand behind others, occur there just once: each is the second of its bytes
-unfoldable pub seconds_behind : List (List ℕ) → List (List ℕ) → ℕ
-seconds_behind before [] = 0
-seconds_behind before (bytes ∷ behind) =
-    (if times_among bytes before == 1 then 1 else 0) + seconds_behind (before ++ bytes ∷ []) behind
+-- how many of some contents, which stand after others, occur there just once: each is the second of its bytes
+unfoldable pub seconds_following : List (List ℕ) → List (List ℕ) → ℕ
+seconds_following before [] = 0
+seconds_following before (bytes ∷ following) =
+    (if times_among bytes before == 1 then 1 else 0) + seconds_following (before ++ bytes ∷ []) following
 
 -- how many contents have two groups or more: so many groups are the second one of their bytes
 abbrev pub stable_node_chains : Contents → Sharing → ℕ
-stable_node_chains contents sharing = seconds_behind [] (group_contents contents sharing)
+stable_node_chains contents sharing = seconds_following [] (group_contents contents sharing)
 
 -- how many groups such contents have
 abbrev pub stable_node_dups : Contents → Sharing → ℕ

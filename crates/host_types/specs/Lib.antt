@@ -13,3 +13,4 @@ pub mod Visits
 pub mod Unmerging
 pub mod Counters
 pub mod Helpers
+pub mod Events

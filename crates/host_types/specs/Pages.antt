@@ -3,13 +3,13 @@ use Rattle.std.specs.Prelude.{ℕ, ◌+◌, ◌*◌, ◌%◌, ◌^◌, List, ◌
 use Rattle.host_types.specs.declared.shape.Page.{Page}
 
 -- where a tenant's map stands among the maps of all tenants, of which each has eight numbers
-abbrev pub map_place : ℕ → ℕ → ℕ
-map_place tenant m = tenant * 8 + m
+abbrev pub map_index_of : ℕ → ℕ → ℕ
+map_index_of tenant m = tenant * 8 + m
 
 -- where a page stands among the pages of all maps, of which each has 256 numbers: the order of these
--- places is the order of visits
-abbrev pub page_place : Page → ℕ
-page_place page = map_place page.tenant page.map * 256 + page.number
+-- indices is the order of visits
+abbrev pub page_index_of : Page → ℕ
+page_index_of page = map_index_of page.tenant page.map * 256 + page.number
 
 -- the content of a map's page: 4096 bytes of the map, the last page filled up with zeros
 unfoldable pub page_bytes : List ℕ → ℕ → List ℕ

@@ -1,5 +1,5 @@
 -- Which pages share frames, without frames: statuses, groups, and the waiting list (this project's
--- own rules, in the manner of Linux's KSM). A page is named by its place among all pages.
+-- own rules, in the manner of Linux's KSM). A page is named by its index among all pages.
 use Rattle.std.specs.Prelude.{ℕ, zero, suc, ◌+◌, ◌-◌, ◌==◌, ◌&&◌, nat_lt, not, Bool, true, false, if◌then◌else◌, List, [], ◌∷◌, ◌++◌, length, map, filter, sum_by, slice_index_or, slice_set, Option, Some, None, option_map, unwrap_or}
 use Rattle.std.specs.List.{list_any}
 use Rattle.host_types.specs.declared.options.Options.{Options}
@@ -12,10 +12,10 @@ pub record PageState : Type 0 where
   pub status : Status
   pub last : Option ℕ
 
--- The pages by place; the groups in order of creation, a group being the list of its pages' places
+-- The pages by index; the groups in order of creation, a group being the list of its pages' indices
 -- in their order; the waiting pages, each with its recorded fingerprint, in order of insertion; the
--- place of the page visited last in this pass, none at its start; the options; the passes ended;
--- for each place whether its page is pinned: an open run took it out, and it stays its own till then.
+-- index of the page visited last in this pass, none at its start; the options; the passes ended;
+-- for each index whether its page is pinned: an open run took it out, and it stays its own till then.
 pub record Sharing : Type 0 where
   pub pages : List (Option PageState)
   pub groups : List (List ℕ)
@@ -25,7 +25,7 @@ pub record Sharing : Type 0 where
   pub full_scans : ℕ
   pub pins : List Bool
 
--- the page at a place
+-- the page at an index
 abbrev pub state_at : Sharing → ℕ → Option PageState
 state_at sharing i = slice_index_or sharing.pages i None
 
@@ -49,18 +49,18 @@ broken_page state = record state { status = Volatile; last = None }
 abbrev pub with_status : Status → PageState → PageState
 with_status status state = record state { status = status }
 
--- a place of a list
+-- an index of a list
 abbrev pub is_among : ℕ → List ℕ → Bool
-is_among i places = list_any (λ j. j == i) places
+is_among i page_indices = list_any (λ j. j == i) page_indices
 
--- the places of a group but one
+-- the indices of a group but one
 abbrev pub without : ℕ → List ℕ → List ℕ
-without i places = filter (λ j. not (j == i)) places
+without i page_indices = filter (λ j. not (j == i)) page_indices
 
--- a group with one more place, in its order
+-- a group with one more index, in its order
 unfoldable pub joined_by : ℕ → List ℕ → List ℕ
 joined_by i [] = i ∷ []
-joined_by i (j ∷ places) = if nat_lt i j then i ∷ j ∷ places else j ∷ joined_by i places
+joined_by i (j ∷ page_indices) = if nat_lt i j then i ∷ j ∷ page_indices else j ∷ joined_by i page_indices
 
 -- the groups after a page left its own; a group without pages disappears
 abbrev pub left_by : ℕ → List (List ℕ) → List (List ℕ)
@@ -100,9 +100,9 @@ unfoldable pub break_cost : Sharing → ℕ → ℕ
 break_cost sharing i = unwrap_or (option_map (λ (state : PageState). cost_of (is_in_company sharing i) state.status) (state_at sharing i)) 0
 
 -- the breaks of n pages, one after another in page order
-unfoldable pub broken_from : Sharing → ℕ → ℕ → Sharing
-broken_from sharing i zero = sharing
-broken_from sharing i (suc n) = broken_from (broken sharing i) (i + 1) n
+unfoldable pub pages_broken : Sharing → ℕ → ℕ → Sharing
+pages_broken sharing i zero = sharing
+pages_broken sharing i (suc n) = pages_broken (broken sharing i) (i + 1) n
 
 -- what these breaks take, each after the breaks before it
 unfoldable pub cost_from : Sharing → ℕ → ℕ → ℕ

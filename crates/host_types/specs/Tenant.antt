@@ -5,7 +5,7 @@ use Rattle.host_types.specs.Memory.{FlatMap, FlatMaps, map_at}
 use Rattle.host_types.specs.Shapes.{IsShape, byte_len_of}
 
 -- A tenant's part: its maps by number; how many frames are reserved for its open run, and whether it has one; and for each
--- of its 2048 places whether the page there is pinned.
+-- of its 2048 indices whether the page there is pinned.
 pub record TenantPart : Type 0 where
   pub maps : FlatMaps
   pub reserve : ℕ

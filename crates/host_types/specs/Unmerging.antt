@@ -8,12 +8,12 @@ use Rattle.host_types.specs.declared.options.Options.{Options}
 use Rattle.host_types.specs.declared.status.Status.{Status}
 use Rattle.host_types.specs.declared.status.Status.TheVariants.{Zero}
 use Rattle.host_types.specs.OptionTable.{MayBe}
-use Rattle.host_types.specs.Sharing.{Sharing, PageState, state_at, is_shared_page, broken_from}
+use Rattle.host_types.specs.Sharing.{Sharing, PageState, state_at, is_shared_page, pages_broken}
 
 -- every page that shares a frame gets one of its own, in page order, and the scanner stops
 unfoldable pub unmerged : Sharing → Sharing
 unmerged sharing =
-    let broken = broken_from sharing 0 (length sharing.pages) in
+    let broken = pages_broken sharing 0 (length sharing.pages) in
     record broken { options = record broken.options { run = 2 } }
 
 -- how many pages all groups have together

@@ -10,11 +10,11 @@ use Rattle.host_types.specs.Pages.{page_bytes, zero_page, fingerprint_of}
 use Rattle.host_types.specs.Pins.{is_pinned}
 use Rattle.host_types.specs.Sharing.{Sharing, PageState, state_at, is_shared, with_status, gone_from, joined_by, paired, zeroed}
 
--- the bytes of the page at each place
+-- the bytes of the page at each index
 abbrev pub Contents : Type 0
 Contents = ℕ → List ℕ
 
--- the bytes of the page at a place, read off the flat maps of all tenants, of which each has 256 places
+-- the bytes of the page at an index, read off the flat maps of all tenants, of which each has 256 indices
 unfoldable pub contents_in : FlatMaps → Contents
 contents_in maps i = page_bytes (unwrap_or (option_map (λ (flat : FlatMap). flat.bytes) (map_at maps (i / 256))) []) (i % 256)
 
@@ -23,16 +23,16 @@ abbrev pub is_mergeable : Option PageState → Bool
 is_mergeable None = false
 is_mergeable (Some state) = state.mergeable
 
--- the first page of some that may be merged, the first of them being at a place
+-- the first page of some that may be merged, the first of them being at an index
 unfoldable pub first_mergeable : ℕ → List (Option PageState) → Option ℕ
-first_mergeable place [] = None
-first_mergeable place (page ∷ pages) = if is_mergeable page then Some place else first_mergeable (place + 1) pages
+first_mergeable page_index [] = None
+first_mergeable page_index (page ∷ pages) = if is_mergeable page then Some page_index else first_mergeable (page_index + 1) pages
 
--- the first page from a place on that may be merged
+-- the first page from an index on that may be merged
 abbrev pub next_from : Sharing → ℕ → Option ℕ
-next_from sharing place = first_mergeable place (drop place sharing.pages)
+next_from sharing page_index = first_mergeable page_index (drop page_index sharing.pages)
 
--- where the next visit looks first: behind the page visited last, at the start of a pass at the first place
+-- where the next visit looks first: after the page visited last, at the start of a pass at the first index
 abbrev pub look_from : Option ℕ → ℕ
 look_from None = 0
 look_from (Some i) = i + 1
@@ -49,7 +49,7 @@ one_more n = if n == 18446744073709551615 then n else n + 1
 abbrev pub is_waiting : Sharing → ℕ → Bool
 is_waiting sharing i = list_any (λ entry. entry.0 == i) sharing.waiting
 
--- the page at a place is the one visited last; behind the last page that may be merged the pass ends
+-- the page at an index is the one visited last; after the last page that may be merged the pass ends
 unfoldable pub moved_on : Sharing → ℕ → Sharing
 moved_on sharing i =
     if is_some (next_from sharing (i + 1))
@@ -65,30 +65,30 @@ waiting_at (Some i) waiting = waiting
 abbrev pub flushed : Sharing → Sharing
 flushed sharing = record sharing { waiting = [] }
 
--- what a visit of the page at a place begins with
+-- what a visit of the page at an index begins with
 unfoldable pub begun : Sharing → ℕ → Sharing
 begun sharing i = moved_on (record sharing { waiting = waiting_at sharing.cursor sharing.waiting }) i
 
 -- the bytes of a group's pages, which are those of its first one
 unfoldable pub group_bytes : Contents → List ℕ → List ℕ
 group_bytes contents [] = []
-group_bytes contents (i ∷ places) = contents i
+group_bytes contents (i ∷ page_indices) = contents i
 
 -- the group has these bytes, and fewer pages than a frame may hold
 abbrev pub is_open : Contents → Sharing → List ℕ → List ℕ → Bool
 is_open contents sharing bytes group =
     bytes_eq (group_bytes contents group) bytes && nat_lt (length group) sharing.options.max_page_sharing
 
--- a group is open to the page at a place
+-- a group is open to the page at an index
 unfoldable pub has_open : Contents → Sharing → ℕ → Bool
 has_open contents sharing i = list_any (is_open contents sharing (contents i)) sharing.groups
 
--- the groups, of which the first that passes the test has one place more
+-- the groups, of which the first that passes the test has one index more
 unfoldable pub join_first : (List ℕ → Bool) → ℕ → List (List ℕ) → List (List ℕ)
 join_first test i [] = []
 join_first test i (group ∷ groups) = if test group then joined_by i group ∷ groups else group ∷ join_first test i groups
 
--- the page at a place is changed
+-- the page at an index is changed
 abbrev pub with_page : Sharing → ℕ → (PageState → PageState) → Sharing
 with_page sharing i change = record sharing { pages = slice_set sharing.pages i (option_map change (state_at sharing i)) }
 
@@ -124,9 +124,9 @@ abbrev pub Visit : Type 0
 Visit = Visited × Sharing
 
 -- the page and its partner are a new last group; without a partner it waits
-unfoldable pub met : Sharing → ℕ → ℕ → Option (ℕ × ℕ) → Visit
-met sharing i fingerprint None = (visited.Waiting, waits sharing i fingerprint)
-met sharing i fingerprint (Some entry) = (visited.Paired, paired sharing entry.0 i)
+unfoldable pub paired_or_waiting : Sharing → ℕ → ℕ → Option (ℕ × ℕ) → Visit
+paired_or_waiting sharing i fingerprint None = (visited.Waiting, waits sharing i fingerprint)
+paired_or_waiting sharing i fingerprint (Some entry) = (visited.Paired, paired sharing entry.0 i)
 
 -- a page with a frame of its own: the first case that holds decides
 unfoldable pub looked_at : Contents → Sharing → ℕ → Option ℕ → Visit
@@ -136,7 +136,7 @@ looked_at contents sharing i last =
     if has_open contents sharing i then (visited.Joined, joined contents sharing i) else (
     if not (had last fingerprint) then (visited.Changed, changed sharing i fingerprint) else (
     if sharing.options.use_zero_pages == 1 && bytes_eq bytes zero_page then (visited.Zeroed, zeroed sharing i) else
-    met sharing i fingerprint (find_partner contents sharing i fingerprint)))
+    paired_or_waiting sharing i fingerprint (find_partner contents sharing i fingerprint)))
 
 -- what becomes of the visited page
 unfoldable pub decided : Contents → Sharing → ℕ → Option PageState → Visit
@@ -154,18 +154,18 @@ unfoldable pub visit : Contents → Sharing → Visit
 visit contents sharing =
     if sharing.options.run == 1 then visit_of contents sharing (page_to_visit sharing) else (visited.Idle, sharing)
 
--- the waiting list without the n pages from a place on
+-- the waiting list without the n pages from an index on
 abbrev pub waiting_outside : ℕ → ℕ → List (ℕ × ℕ) → List (ℕ × ℕ)
-waiting_outside place n waiting = filter (λ entry. not (nat_le place entry.0 && nat_lt entry.0 (place + n))) waiting
+waiting_outside page_index n waiting = filter (λ entry. not (nat_le page_index entry.0 && nat_lt entry.0 (page_index + n))) waiting
 
--- A pass where no page behind the cursor may be merged ends, as it does in a visit. At the start of a
+-- A pass where no page after the cursor may be merged ends, as it does in a visit. At the start of a
 -- pass nothing changes.
 abbrev pub ended_at : Sharing → Option ℕ → Sharing
 ended_at sharing None = sharing
 ended_at sharing (Some c) = moved_on sharing c
 
--- A map was dropped that had n pages from a place on: they leave their groups, the frame of zeros and
--- the waiting list, and the pass ends if no page behind the cursor may be merged now.
+-- A map was dropped that had n pages from an index on: they leave their groups, the frame of zeros and
+-- the waiting list, and the pass ends if no page after the cursor may be merged now.
 unfoldable pub dropped : Sharing → ℕ → ℕ → Sharing
-dropped sharing place n =
-    ended_at (record (gone_from sharing place n) { waiting = waiting_outside place n sharing.waiting }) sharing.cursor
+dropped sharing page_index n =
+    ended_at (record (gone_from sharing page_index n) { waiting = waiting_outside page_index n sharing.waiting }) sharing.cursor

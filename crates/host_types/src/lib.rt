@@ -3,6 +3,8 @@
 //! the layout of addresses, and a tenant's flat memory.
 #![tactic(auto)]
 
+mod bytes;
+mod event;
 mod fault;
 mod helper;
 pub mod layout;
@@ -13,6 +15,8 @@ mod shape;
 mod status;
 mod visited;
 
+pub use bytes::Bytes;
+pub use event::Event;
 pub use fault::{Fault, Refused};
 pub use helper::MapHelper;
 pub use options::{Opt, Options};

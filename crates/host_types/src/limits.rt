@@ -10,7 +10,7 @@ pub const MAX_TENANTS: u32 = 16;
 /// How many map numbers a tenant has.
 pub const MAX_MAPS: usize = 8;
 
-/// How many places for programs a tenant has.
+/// How many entries for programs a tenant has.
 pub const MAX_PROGRAMS: usize = 8;
 
 /// The bytes of a page.

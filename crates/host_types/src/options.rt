@@ -54,7 +54,7 @@ impl Options {
     ghost use Rattle.std.specs.Prelude.{◌≡◌, ◌↔◌, IsTrue};
     ghost use Rattle.host_types.specs.OptionTable.{AreOptions, default_options};
 
-    /// The options of a memory that is told none.
+    /// The options of a memory that is given none.
     pub fn standard() -> Self
         ensures { result ≡ default_options }
     {

@@ -22,7 +22,7 @@ pub const BACK_JUMP: u32 = 11;
 /// A jump leads past the end, or to the second slot of a wide instruction.
 pub const JUMP_OUT: u32 = 12;
 
-/// Nothing stands behind an instruction that may fall through.
+/// Nothing stands after an instruction that may fall through.
 pub const FALLS_OFF: u32 = 13;
 
 /// A register is read of which nothing is known.
@@ -43,7 +43,7 @@ pub const UNSET_STACK: u32 = 18;
 /// An access that isn't whole in an element of a map.
 pub const OUTSIDE_MAP: u32 = 19;
 
-/// The place of an access is no multiple of its size.
+/// The location of an access is no multiple of its size.
 pub const MISALIGNED: u32 = 20;
 
 /// A pointer is used that may be null.

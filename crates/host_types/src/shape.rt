@@ -54,7 +54,7 @@ impl Shape {
     pub fn element_at(&self, key: u32) -> u32
         requires shape { IsShape self.now }
         requires there { key < self.now.entries }
-        ensures place { result ≡ element_at self.now key }
+        ensures offset { result ≡ element_at self.now key }
         ensures within { result + self.now.value_size ≤ byte_len_of self.now }
     {
         self.stride() * key

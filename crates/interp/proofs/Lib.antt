@@ -13,7 +13,7 @@ pub mod Writes
 pub mod Parts
 pub mod SlotBytes
 pub mod States
-pub mod Places
+pub mod Pcs
 pub mod Instructions
 pub mod Steps
 pub mod Jumps

@@ -19,10 +19,10 @@ pub with_part-at_inside : {X : Type 0} (xs : List X) (at : ℕ) (part : List X) 
 unfolding with_part
 with_part-at_inside xs at part i d within h less = grind (arith, length-take-le, get_or_append_left, drop, length, length-append, get_or-append_right, take)
 
--- an element behind the part that was put in
-pub with_part-at_behind : {X : Type 0} (xs : List X) (at : ℕ) (part : List X) (i : ℕ) (d : X) → at ≤ length xs → at + length part ≤ i → get_or (with_part xs at part) i d ≡ get_or xs i d
+-- an element after the part that was put in
+pub with_part-at_following : {X : Type 0} (xs : List X) (at : ℕ) (part : List X) (i : ℕ) (d : X) → at ≤ length xs → at + length part ≤ i → get_or (with_part xs at part) i d ≡ get_or xs i d
 unfolding with_part
-with_part-at_behind xs at part i d within h = grind (arith, length-take-le, length, get_or-append_right, drop, length-append, get_or-drop)
+with_part-at_following xs at part i d within h = grind (arith, length-take-le, length, get_or-append_right, drop, length-append, get_or-drop)
 
 -- where each element is there, all are
 pub all_there : (xs : List (Option ℕ)) → ((i : ℕ) → i < length xs → IsSome (get_or xs i None)) → (given : List ℕ) × (all_set xs ≡ Some given)

@@ -9,7 +9,7 @@ use Rattle.verifier_kinds.specs.declared.kind.Kind.TheVariants.{Scalar, MapName,
 use Rattle.verifier_kinds.specs.declared.description.Description.{Description}
 use Rattle.verifier_kinds.specs.Kinds.{constant, shape_at}
 use Rattle.verifier_kinds.specs.Descriptions.{with_kind}
-use Rattle.verifier.specs.Flow.{holds_or, write_kind, lies_below, aligned, context_place, stack_place, value_size_of, at_offset, wide_kind}
+use Rattle.verifier.specs.Flow.{holds_or, write_kind, lies_below, aligned, context_offset, stack_offset, value_size_of, at_offset, wide_kind}
 use Rattle.verifier.specs.Subject.{Subject}
 use Rattle.verifier.proofs.Flows.{both_ok, then_ok}
 
@@ -18,21 +18,21 @@ pub held : (test : Bool) (rule : ℕ) (x : Unit {0}) → holds_or test rule ≡ 
 held true rule x e = refl
 held false rule x e = cc
 
--- the place is the offset, and all the bytes lie below the end
+-- the location is the offset, and all the bytes lie below the end
 pub lay_below : (offset : ℤ) (size end rule at : ℕ) → lies_below offset size end rule ≡ Ok at → (offset ≡ pos at) × (at + size ≤ end)
 lay_below (pos n) size end rule at e = grind (arith, nat_tests)
 lay_below (negsuc n) size end rule at e = cc
 
--- the place is a multiple of the size
+-- the offset is a multiple of the size
 pub was_aligned : (from size at : ℕ) → aligned from size ≡ Ok at → (from ≡ at) × (at % size ≡ 0)
 was_aligned from size at e = grind (arith, nat_tests)
 
--- the place in the context of an access that is let through
-pub context_passed : (context_size : ℕ) (offset : ℤ) (size at : ℕ) → context_place context_size offset size ≡ Ok at → (offset ≡ pos at) × (at + size ≤ context_size) × (at % size ≡ 0)
+-- the location in the context of an access that is let through
+pub context_passed : (context_size : ℕ) (offset : ℤ) (size at : ℕ) → context_offset context_size offset size ≡ Ok at → (offset ≡ pos at) × (at + size ≤ context_size) × (at % size ≡ 0)
 context_passed context_size offset size at e = grind (arith, nat_tests, then_ok, lay_below, was_aligned)
 
--- the place in the stack of an access that is let through
-pub stack_passed : (offset : ℤ) (size at : ℕ) → stack_place offset size ≡ Ok at → (offset +ℤ pos 512 ≡ pos at) × (at + size ≤ 512) × (at % size ≡ 0)
+-- the location in the stack of an access that is let through
+pub stack_passed : (offset : ℤ) (size at : ℕ) → stack_offset offset size ≡ Ok at → (offset +ℤ pos 512 ≡ pos at) × (at + size ≤ 512) × (at % size ≡ 0)
 stack_passed offset size at e = grind (arith, nat_tests, then_ok, lay_below, was_aligned)
 
 -- a kind is written to a register that isn't R10

@@ -2,11 +2,11 @@
 //! is the standard's (RFC 9669, sections 4 and 5).
 #![tactic(auto)]
 
+mod control;
 mod maps;
 mod need;
 mod on_maps;
 mod run;
-mod way;
 
 pub use maps::MapMemory;
 pub use need::Need;

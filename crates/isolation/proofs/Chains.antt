@@ -1,7 +1,7 @@
 -- The events of one tenant, with whatever happens between them.
 use Rattle.std.proofs.Common.{◌≡◌, ℕ, ◌⊎◌, inl, inr, Bool, true, false, if◌then◌else◌, List, [], ◌∷◌, sym, refl, ap, ◌∙◌, subst}
-use Rattle.host_core.specs.declared.event.Event.{Event}
-use Rattle.host_core.specs.declared.event.Reply.{Reply}
+use Rattle.host_types.specs.declared.event.Event.{Event}
+use Rattle.host_core.specs.declared.reply.Reply.{Reply}
 use Rattle.host_core.specs.World.{System}
 use Rattle.host_core.specs.Happens.{Happens, AllHappen}
 use Rattle.isolation.specs.Tenants.{AgreeOn, seen_by, is_of, events_of, replies_to}

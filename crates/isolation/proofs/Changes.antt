@@ -10,12 +10,12 @@ use Rattle.host_types.specs.Sharing.{Sharing}
 use Rattle.page_table.specs.Limits.{shape_of}
 use Rattle.verifier.specs.Subject.{Subject}
 use Rattle.interp.specs.Machine.{Outcome, Next, Exits}
-use Rattle.host_core.specs.declared.event.Event.{Event}
-use Rattle.host_core.specs.declared.event.Event.TheVariants.{CreateMap, Load, Begin, Step, Visit, HostUpdate, HostLookup, Set, Unmerge, Counters, Unload, DropMap}
-use Rattle.host_core.specs.declared.event.Reply.{Reply}
-use Rattle.host_core.specs.declared.event.Reply.TheVariants.{Refused}
+use Rattle.host_types.specs.declared.event.Event.{Event}
+use Rattle.host_types.specs.declared.event.Event.TheVariants.{CreateMap, Load, Begin, Step, Visit, HostUpdate, HostLookup, Set, Unmerge, Counters, Unload, DropMap}
+use Rattle.host_core.specs.declared.reply.Reply.{Reply}
+use Rattle.host_core.specs.declared.reply.Reply.TheVariants.{Refused}
 use Rattle.host_core.specs.World.{Tenant, System, OpenRun}
-use Rattle.host_core.specs.HostView.{tenant_of}
+use Rattle.host_types.specs.Events.{tenant_of}
 use Rattle.host_core.specs.Happens.{Happens, Answers, Leaves, Shares, RefusedOr, OfTenant, StepLeads, StepHappens, BeginHappens, CreateHappens, UpdateHappens, LookupHappens, LoadHappens, UnloadHappens, DropHappens, changed_system}
 use Rattle.host_core.proofs.Worlds.{slice_get-set-other}
 use Rattle.isolation.specs.Tenants.{AgreeOn, seen_by, seen_tenant, names_tenant, is_of, is_scarce}
@@ -53,7 +53,7 @@ create x x' t shape mergeable reply tenant h = left x x' t reply _ _ _ h.2 refl
 load : (x x' : System) (t : ℕ) (reply : Reply) (tenant : Tenant) (p : Subject) → LoadHappens x t tenant p reply x' → Left x (Some t) reply x'
 load x x' t reply tenant p (LoadHappens.malformed refusal is h) = inl h.1
 load x x' t reply tenant p (LoadHappens.unlawful well refusal is h) = inl h.1
-load x x' t reply tenant p (LoadHappens.lacking well h) = inl h.1
+load x x' t reply tenant p (LoadHappens.refusal_or_out_of_memory well h) = inl h.1
 load x x' t reply tenant p (LoadHappens.loaded well table tight k free h) = left x x' t reply _ _ _ h refl
 
 begin : (x x' : System) (t k : ℕ) (context : List ℕ) (reply : Reply) (tenant : Tenant) → BeginHappens x t tenant k context reply x' → Left x (Some t) reply x'

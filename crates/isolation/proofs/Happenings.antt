@@ -4,8 +4,8 @@ use Rattle.host_types.specs.declared.fault.Fault.TheVariants as fault
 use Rattle.host_types.specs.declared.shape.Shape.{Shape}
 use Rattle.host_calls.specs.Calls.{lookup_refusal}
 use Rattle.host_calls.specs.Programs.{subject_of}
-use Rattle.host_core.specs.declared.event.Reply.{Reply}
-use Rattle.host_core.specs.declared.event.Reply.TheVariants.{Refused}
+use Rattle.host_core.specs.declared.reply.Reply.{Reply}
+use Rattle.host_core.specs.declared.reply.Reply.TheVariants.{Refused}
 use Rattle.host_core.specs.World.{Tenant, System, owned_by}
 use Rattle.host_core.specs.Happens.{Answers, RefusedOr, create_refusal, CreateHappens, LoadHappens, load_refusal, BeginHappens, begin_refusal, StepHappens, host_update_refusal, UpdateHappens, LookupHappens, UnloadHappens, unload_refusal, DropHappens, drop_refusal}
 

@@ -4,11 +4,11 @@ use Rattle.std.specs.List.{All}
 use Rattle.std.proofs.lemmas.Bool.Decides.{eqb_tells}
 use Rattle.std.proofs.lemmas.List.Elements.{All-head, All-tail}
 use Rattle.page_table.specs.Limits.{shape_of}
-use Rattle.host_core.specs.declared.event.Event.{Event}
-use Rattle.host_core.specs.declared.event.Event.TheVariants.{CreateMap, Load, Begin, Step, Visit, HostUpdate, HostLookup, Set, Unmerge, Counters, Unload, DropMap}
-use Rattle.host_core.specs.declared.event.Reply.{Reply}
+use Rattle.host_types.specs.declared.event.Event.{Event}
+use Rattle.host_types.specs.declared.event.Event.TheVariants.{CreateMap, Load, Begin, Step, Visit, HostUpdate, HostLookup, Set, Unmerge, Counters, Unload, DropMap}
+use Rattle.host_core.specs.declared.reply.Reply.{Reply}
 use Rattle.host_core.specs.World.{System}
-use Rattle.host_core.specs.HostView.{tenant_of}
+use Rattle.host_types.specs.Events.{tenant_of}
 use Rattle.host_core.specs.Happens.{Happens, AllHappen}
 use Rattle.isolation.specs.Tenants.{AgreeOn, names_tenant, is_of, events_of, replies_to, is_scarce, IsPlenty, GoAlike}
 use Rattle.isolation.specs.Laws.{TenantsAreIsolated, PlentyLeavesNothingToSee}

@@ -7,8 +7,8 @@ use Rattle.host_types.specs.declared.fault.Refused.{Refused as Refusal}
 use Rattle.bpf_decode.specs.Text.{WellFormedHasNoFault, FirstFaultIsOne, FailsFirst, fault_at}
 use Rattle.verifier.specs.Subject.{Subject}
 use Rattle.verifier.proofs.Uniqueness.{one_refusal, refusal_excludes}
-use Rattle.host_core.specs.declared.event.Reply.{Reply}
-use Rattle.host_core.specs.declared.event.Reply.TheVariants.{Program, Begun, Done, Refused}
+use Rattle.host_core.specs.declared.reply.Reply.{Reply}
+use Rattle.host_core.specs.declared.reply.Reply.TheVariants.{Program, Begun, Done, Refused}
 use Rattle.host_core.specs.World.{Tenant, System, program_at, begun_run}
 use Rattle.host_core.specs.Happens.{Answers, Leaves, LoadHappens, load_refusal, BeginHappens, begin_refusal, UnloadHappens, unload_refusal, DropHappens, drop_refusal, OfTenant}
 use Rattle.isolation.specs.Tenants.{AgreeOn, is_scarce}
@@ -49,22 +49,22 @@ refused_alike t x y x' y' tenant reply other refusal further there found same h 
 
 loads : (t : ℕ) (x y x' y' : System) (tenant : Tenant) (p : Subject) (reply other : Reply) → slice_get x.world t ≡ Some tenant → slice_get y.world t ≡ Some tenant
     → LoadHappens x t tenant p reply x' → LoadHappens y t tenant p other y' → Alike t reply other x' y'
-loads t x y x' y' tenant p reply other there found (LoadHappens.lacking well h) happens = inl (ap is_scarce h.0)
-loads t x y x' y' tenant p reply other there found happens (LoadHappens.lacking well h) = inr (inl (ap is_scarce h.0))
+loads t x y x' y' tenant p reply other there found (LoadHappens.refusal_or_out_of_memory well h) happens = inl (ap is_scarce h.0)
+loads t x y x' y' tenant p reply other there found happens (LoadHappens.refusal_or_out_of_memory well h) = inr (inl (ap is_scarce h.0))
 loads t x y x' y' tenant p reply other there found (LoadHappens.malformed refusal is h) (LoadHappens.malformed further also k) =
     refused_alike t x y x' y' tenant reply other refusal further there found (one_fault p.text further refusal also is) h k
 loads t x y x' y' tenant p reply other there found (LoadHappens.unlawful well refusal is h) (LoadHappens.unlawful formed further also k) =
     refused_alike t x y x' y' tenant reply other refusal further there found (one_refusal p further refusal also is) h k
-loads t x y x' y' tenant p reply other there found (LoadHappens.loaded well table tight place free h) (LoadHappens.loaded formed second held at taken k) =
-    let same : at ≡ place = cc (free, taken) in
-    alike-changed t x y x' y' tenant (record tenant { programs = set tenant.programs place (Some p) }) x.sharing y.sharing (Program place) reply other there found h
+loads t x y x' y' tenant p reply other there found (LoadHappens.loaded well table tight entry_index free h) (LoadHappens.loaded formed second held at taken k) =
+    let same : at ≡ entry_index = cc (free, taken) in
+    alike-changed t x y x' y' tenant (record tenant { programs = set tenant.programs entry_index (Some p) }) x.sharing y.sharing (Program entry_index) reply other there found h
     (subst (λ (n : ℕ). Leaves y t (record tenant { programs = set tenant.programs n (Some p) }) y.sharing (Program n) other y') same k)
 loads t x y x' y' tenant p reply other there found (LoadHappens.malformed refusal is h) (LoadHappens.unlawful formed further also k) = absurd (no_fault p.text refusal formed is)
 loads t x y x' y' tenant p reply other there found (LoadHappens.unlawful well refusal is h) (LoadHappens.malformed further also k) = absurd (no_fault p.text further well also)
 loads t x y x' y' tenant p reply other there found (LoadHappens.malformed refusal is h) (LoadHappens.loaded formed second held at taken k) = absurd (no_fault p.text refusal formed is)
-loads t x y x' y' tenant p reply other there found (LoadHappens.loaded well table tight place free h) (LoadHappens.malformed further also k) = absurd (no_fault p.text further well also)
+loads t x y x' y' tenant p reply other there found (LoadHappens.loaded well table tight entry_index free h) (LoadHappens.malformed further also k) = absurd (no_fault p.text further well also)
 loads t x y x' y' tenant p reply other there found (LoadHappens.unlawful well refusal is h) (LoadHappens.loaded formed second held at taken k) = absurd (refusal_excludes p second refusal held is)
-loads t x y x' y' tenant p reply other there found (LoadHappens.loaded well table tight place free h) (LoadHappens.unlawful formed further also k) = absurd (refusal_excludes p table further tight also)
+loads t x y x' y' tenant p reply other there found (LoadHappens.loaded well table tight entry_index free h) (LoadHappens.unlawful formed further also k) = absurd (refusal_excludes p table further tight also)
 
 begins : (t : ℕ) (x y x' y' : System) (tenant : Tenant) (n : ℕ) (context : List ℕ) (reply other : Reply) → slice_get x.world t ≡ Some tenant → slice_get y.world t ≡ Some tenant
     → BeginHappens x t tenant n context reply x' → BeginHappens y t tenant n context other y' → Alike t reply other x' y'

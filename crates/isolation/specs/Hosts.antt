@@ -1,7 +1,7 @@
 -- Two hosts, to each of which a list of events is applied.
 use Rattle.std.specs.Prelude.{◌≡◌, ◌⊎◌, ℕ, List}
-use Rattle.host_core.specs.declared.event.Event.{Event}
-use Rattle.host_core.specs.declared.event.Reply.{Reply}
+use Rattle.host_types.specs.declared.event.Event.{Event}
+use Rattle.host_core.specs.declared.reply.Reply.{Reply}
 use Rattle.host_core.specs.Happens.{AllHappen}
 use Rattle.host_core.specs.HostView.{HostView, StandsForSystem}
 use Rattle.host_core.specs.World.{System}

@@ -1,7 +1,7 @@
--- Isolation: what a tenant is answered, and what becomes of it, is told by its own events.
+-- Isolation: what a tenant is answered, and what becomes of it, is reported by its own events.
 use Rattle.std.specs.Prelude.{◌≡◌, ℕ, Bool, true, List, All}
-use Rattle.host_core.specs.declared.event.Event.{Event}
-use Rattle.host_core.specs.declared.event.Reply.{Reply}
+use Rattle.host_types.specs.declared.event.Event.{Event}
+use Rattle.host_core.specs.declared.reply.Reply.{Reply}
 use Rattle.host_core.specs.Happens.{Happens, AllHappen}
 use Rattle.host_core.specs.World.{System}
 use Rattle.isolation.specs.Tenants.{AgreeOn, events_of, replies_to, is_scarce, IsPlenty, GoAlike}

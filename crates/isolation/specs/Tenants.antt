@@ -4,10 +4,10 @@ use Rattle.host_types.specs.declared.fault.Fault.TheVariants.{NoFrames, OutOfMem
 use Rattle.host_types.specs.Memory.{FlatMaps}
 use Rattle.verifier.specs.Subject.{Subject}
 use Rattle.interp.specs.Machine.{MachineState}
-use Rattle.host_core.specs.declared.event.Event.{Event}
-use Rattle.host_core.specs.declared.event.Reply.{Reply}
-use Rattle.host_core.specs.declared.event.Reply.TheVariants.{Refused}
-use Rattle.host_core.specs.HostView.{tenant_of}
+use Rattle.host_types.specs.declared.event.Event.{Event}
+use Rattle.host_core.specs.declared.reply.Reply.{Reply}
+use Rattle.host_core.specs.declared.reply.Reply.TheVariants.{Refused}
+use Rattle.host_types.specs.Events.{tenant_of}
 use Rattle.host_core.specs.World.{OpenRun, Tenant, System}
 
 -- an open run but for where it began: its program, its state, and how many steps it made

@@ -8,7 +8,7 @@ use std::alloc::AllocError;
 
 /// Applies a list of events to each of two hosts. Whatever the lists are, and whatever frames, tenants and options the hosts have:
 /// a tenant on which both agree, and whose events are the same in both lists, gets the same replies of both, up to the first
-/// that tells of scarce frames or memory, and sees the same afterwards where there is none. The replies are those of the first host and of the
+/// that speaks of scarce frames or memory, and sees the same afterwards where there is none. The replies are those of the first host and of the
 /// second one. Where there is no room for them, the second host is as it was, and the first one may be so too.
 pub fn both(
     left: &mut Host,

@@ -43,8 +43,8 @@ one_end text s reply further maps others h k = elim (three_ways reply.steps furt
       let ends : Exits reply.ret maps ≡ Exits further.ret others = one_outcome text s reply.steps (Exits reply.ret maps) (Exits further.ret others) h also in
       let numbers : reply.ret ≡ further.ret = cc ends in
       let left : maps ≡ others = cc ends in
-      let told : ℕ → ℕ → RunReply = λ ret steps. record { ret = ret; steps = steps } in
-      (ap (λ ret. told ret reply.steps) numbers ∙ ap (told further.ret) same, left)
+      let answered : ℕ → ℕ → RunReply = λ ret steps. record { ret = ret; steps = steps } in
+      (ap (λ ret. answered ret reply.steps) numbers ∙ ap (answered further.ret) same, left)
 ]
 
 pub runs_are_determined : RunsAreDetermined

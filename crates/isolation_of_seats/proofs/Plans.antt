@@ -26,7 +26,7 @@ scarce_begin : (v : Accepted) (owned : TenantPart) (refusal : Fault) → Refuses
 scarce_begin v owned (NoFrames need have) h = refl
 scarce_begin v owned refusal h = absurd h
 
--- a refusal is scarce, or it is told by the maps and the context
+-- a refusal is scarce, or it is reported by the maps and the context
 abbrev IsOwnRefusal : Accepted → List ℕ → FlatMaps → Fault → Type 0
 IsOwnRefusal v context maps refusal =
     ((refusal ≡ BadContext) × (length context ≢ v.subject.context_size))

@@ -7,7 +7,7 @@ pub fn runs_are_determined()
 {}
 
 /// Tenants of seats are isolated: plans of the same programs and runs that begin with equal maps are answered the same up to the
-/// first reply that tells of scarce frames or memory; and if there is none, they leave equal maps. This is a law about the definitions: the function does nothing.
+/// first reply that speaks of scarce frames or memory; and if there is none, they leave equal maps. This is a law about the definitions: the function does nothing.
 #[tactic(auto, using(crate::proofs::Plans::plans_are_isolated))]
 pub fn plans_are_isolated()
     ensures { PlansAreIsolated }

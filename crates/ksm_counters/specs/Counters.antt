@@ -21,7 +21,7 @@ counters_of frames contents sharing =
       frames_free = frames_free frames sharing;
     }
 
--- the line of a counter, and what comes behind it
+-- the line of a counter, and what comes after it
 abbrev pub line_before : List ℕ → ℕ → List ℕ → List ℕ
 line_before name value rest = name ++ codes " " ++ decimal value ++ 10 ∷ rest
 

@@ -1,10 +1,10 @@
-//! What is told of pages that share frames: the counters of Linux's KSM manual, and the frames that are
+//! What is reported of pages that share frames: the counters of Linux's KSM manual, and the frames that are
 //! free. Nothing here changes a memory or takes memory.
 #![tactic(auto)]
 
+mod counter_lines;
 mod line;
 mod numbers;
-mod telling;
 
+pub use counter_lines::{counters, text};
 pub use numbers::Counters;
-pub use telling::{counters, text};

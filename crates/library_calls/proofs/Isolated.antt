@@ -1,6 +1,6 @@
 -- Isolation of calls, by induction on the calls for the tenant.
 use Rattle.std.proofs.Common.{◌≡◌, inl, inr, ℕ, Bool, true, false, if◌then◌else◌, List, [], ◌∷◌, refl, ap, sym, ◌∙◌, subst}
-use Rattle.host_core.specs.declared.event.Reply.{Reply}
+use Rattle.host_core.specs.declared.reply.Reply.{Reply}
 use Rattle.host_core.specs.World.{System}
 use Rattle.isolation.specs.Tenants.{AgreeOn, GoAlike, seen_by}
 use Rattle.library_calls.specs.Isolation.{Call, CallHappens, CallsHappen, CallsAreIsolated, is_call_for, calls_for, answers_for}

@@ -1,8 +1,8 @@
 -- A tenant sees nothing of a call for another one, or for none.
 use Rattle.std.proofs.Common.{◌≡◌, inl, inr, ℕ, zero, suc, false, List, Some, unwrap_or, refl, ap, ◌∙◌}
-use Rattle.host_core.specs.declared.event.Event.TheVariants.{Begin, Step, Visit, Counters}
-use Rattle.host_core.specs.declared.event.Reply.{Reply}
-use Rattle.host_core.specs.declared.event.Reply.TheVariants.{Begun, Stepped}
+use Rattle.host_types.specs.declared.event.Event.TheVariants.{Begin, Step, Visit, Counters}
+use Rattle.host_core.specs.declared.reply.Reply.{Reply}
+use Rattle.host_core.specs.declared.reply.Reply.TheVariants.{Begun, Stepped}
 use Rattle.host_core.specs.World.{System}
 use Rattle.isolation.specs.Tenants.{AgreeOn, seen_by, names_tenant}
 use Rattle.isolation.proofs.Changes.{unnoticed}

@@ -1,8 +1,8 @@
 -- Steps of an open run one by one.
 use Rattle.std.proofs.Common.{◌≡◌, ◌≢◌, ◌⊎◌, inl, inr, ℕ, zero, suc, ◌<◌, [], ◌∷◌, ◌++◌, replicate, Option, Some, None, unwrap_or, refl, arith}
-use Rattle.host_core.specs.declared.event.Event.TheVariants.{Step}
-use Rattle.host_core.specs.declared.event.Reply.{Reply}
-use Rattle.host_core.specs.declared.event.Reply.TheVariants.{Stepped}
+use Rattle.host_types.specs.declared.event.Event.TheVariants.{Step}
+use Rattle.host_core.specs.declared.reply.Reply.{Reply}
+use Rattle.host_core.specs.declared.reply.Reply.TheVariants.{Stepped}
 use Rattle.host_core.specs.World.{System}
 use Rattle.host_core.specs.Happens.{AllHappen, StepsHappen}
 use Rattle.library_calls.specs.Calls.{Serves, Steps}

@@ -1,9 +1,9 @@
 -- What a call of the library does to a system, by events and their replies.
 use Rattle.std.specs.Prelude.{◌≡◌, ◌≢◌, ◌⊎◌, ℕ, suc, zero, List, Option, Some, unwrap_or}
-use Rattle.host_core.specs.declared.event.Event.{Event}
-use Rattle.host_core.specs.declared.event.Event.TheVariants.{Begin, Visit, Counters}
-use Rattle.host_core.specs.declared.event.Reply.{Reply}
-use Rattle.host_core.specs.declared.event.Reply.TheVariants.{Begun, Stepped}
+use Rattle.host_types.specs.declared.event.Event.{Event}
+use Rattle.host_types.specs.declared.event.Event.TheVariants.{Begin, Visit, Counters}
+use Rattle.host_core.specs.declared.reply.Reply.{Reply}
+use Rattle.host_core.specs.declared.reply.Reply.TheVariants.{Begun, Stepped}
 use Rattle.host_core.specs.World.{System, IsCovered}
 use Rattle.host_core.specs.Happens.{Happens, IsPromised, StepsHappen}
 
@@ -27,6 +27,6 @@ abbrev pub Visits : ℕ → System → System → Type 0
 Visits zero x x' = x' ≡ x
 Visits (suc n) x x' = (between : System) × Visits n x between × ((reply : Reply) × Serves Visit reply between x')
 
--- so many visits of the scanner, and then the counters are told
+-- so many visits of the scanner, and then the counters are reported
 abbrev pub VisitsAndCounts : ℕ → Reply → System → System → Type 0
 VisitsAndCounts n reply x x' = (between : System) × Visits n x between × Serves Counters reply between x'

@@ -1,8 +1,8 @@
 -- Calls on two handles, whose hosts agree on a tenant.
 use Rattle.std.specs.Prelude.{◌≡◌, ℕ, Bool, if◌then◌else◌, List, [], ◌∷◌, Option, Some, None}
-use Rattle.host_core.specs.declared.event.Event.{Event}
-use Rattle.host_core.specs.declared.event.Reply.{Reply}
-use Rattle.host_core.specs.HostView.{tenant_of}
+use Rattle.host_types.specs.declared.event.Event.{Event}
+use Rattle.host_core.specs.declared.reply.Reply.{Reply}
+use Rattle.host_types.specs.Events.{tenant_of}
 use Rattle.host_core.specs.World.{System}
 use Rattle.isolation.specs.Tenants.{AgreeOn, GoAlike, names_tenant}
 use Rattle.library_calls.specs.Calls.{Serves, RunsWhole, Steps, VisitsAndCounts}

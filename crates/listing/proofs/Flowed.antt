@@ -61,29 +61,29 @@ flowed_next p table after slot next jump h f len all kinds reached = rw add-one 
     here = known_here p table slot h f
 
 -- what flows from a slot on doesn't arrive there or before
-settled : (p : Subject) (s n : ℕ) → IsWellFormed p.text → s ≤ n → n ≤ slots_of p.text → incoming p (tight_table p) s n ≡ incoming p (tight_table p) s s
+resolved : (p : Subject) (s n : ℕ) → IsWellFormed p.text → s ≤ n → n ≤ slots_of p.text → incoming p (tight_table p) s n ≡ incoming p (tight_table p) s s
 unfolding incoming
-settled p zero zero w h k = refl
-settled p (suc s) zero w h k = absurd (omega arith)
-settled p s (suc n) w h k = elim (at_most_next s n h) [
+resolved p zero zero w h k = refl
+resolved p (suc s) zero w h k = absurd (omega arith)
+resolved p s (suc n) w h k = elim (at_most_next s n h) [
   | inl below ↦
       arrived-elsewhere s (incoming p (tight_table p) s n) (flows_from p (tight_table p) n)
       (All-weaker (IsAhead p n) (λ t. t.0 ≡ s → ⊥) (λ t a e. absurd (omega (arith, a.above, below, e))) (flows_from p (tight_table p) n) (flows_ahead p (tight_table p) n (tight_instruction p n w (omega arith))))
-      ∙ settled p s n w below (omega arith)
+      ∙ resolved p s n w below (omega arith)
   | inr same ↦ let P : ℕ → Type 0 = λ m. incoming p (tight_table p) s m ≡ incoming p (tight_table p) s s in subst P same refl
 ]
   where
     at_most_next : (n m : ℕ) → n ≤ suc m → (n ≤ m) ⊎ (n ≡ suc m)
     at_most_next n m h = grind arith
 
--- behind the last slot it is known what the tight table says
+-- after the last slot it is known what the tight table says
 flowed_table : (p : Subject) (table : Table) (slot : ℕ) → IsWellFormed p.text → slot ≡ slots_of p.text → HasFlowed p table slot → table ≡ tight_table p
 flowed_table p table slot w end f =
     ext_get_or None table (tight_table p) (f.whole ∙ sym (length-tight p (slots_of p.text)))
     (λ s h.
     let within : s < slots_of p.text = omega (arith, f.whole) in
     f.known s within
-    ∙ settled p s slot w (omega arith) (omega arith)
+    ∙ resolved p s slot w (omega arith) (omega arith)
     ∙ sym (tight_is_tight p (slots_of p.text) s within))
 
 pub flowed_all : (p : Subject) (table : Table) (slot : ℕ) → IsWellFormed p.text → slot ≡ slots_of p.text → HasFlowed p table slot → IsKnowledge p table
@@ -97,7 +97,7 @@ flowed_all p table slot w end f = record {
 pub has_slots : (text : List ℕ) → IsWellFormed text → 0 < slots_of text
 has_slots text w = (first_instruction text w).within
 
--- of a list of nothing only what is set at its first place is read
+-- of a list of nothing only what is set at its first location is read
 pub started : (n : ℕ) (x : Option Description) (s : ℕ) → 0 < n → get_or (set (replicate n None) 0 x) s None ≡ (if s == 0 then x else None)
 started zero x s h = absurd (omega arith)
 started (suc n) x zero h = refl

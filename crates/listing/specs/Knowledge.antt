@@ -11,12 +11,12 @@ use Rattle.verifier.specs.Pass.{FlowDescribed}
 
 -- what a description says of eight bytes of the stack, if there is one
 abbrev pub stack_in : Option Description → ℕ → StackSlot
-stack_in None place = Bytes 0
-stack_in (Some d) place = slot_of d place
+stack_in None location = Bytes 0
+stack_in (Some d) location = slot_of d location
 
 -- what is known of eight bytes of the stack at a slot: that none is written where the slot isn't reached
 abbrev pub stack_at : Table → ℕ → ℕ → StackSlot
-stack_at table slot place = stack_in (described table slot) place
+stack_at table slot location = stack_in (described table slot) location
 
 -- Of each slot it is known what flows there from the first slots of the text.
 pub record HasFlowed (p : Subject) (table : Table) (slot : ℕ) : Type 0 where

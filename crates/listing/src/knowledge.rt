@@ -176,7 +176,7 @@ impl Knowledge {
     }
 
     /// What is known of a register at a slot: `None` where nothing is known of it, or where the slot isn't reached. Of a
-    /// text that is accepted it is what `Verified::kind` tells.
+    /// text that is accepted it is what `Verified::kind` gives.
     pub fn kind(&self, slot: u32, register: u8) -> Option<Kind>
         requires { register ≤ 10 }
         ensures { result ≡ kind_at (tight_table self.now) slot register }
@@ -187,12 +187,12 @@ impl Knowledge {
 
     /// What is known of eight bytes of the stack at a slot, the lowest address first: that none is written where
     /// the slot isn't reached.
-    pub fn stack(&self, slot: u32, place: usize) -> StackSlot
-        requires { place < 64 }
-        ensures { result ≡ stack_at (tight_table self.now) slot place }
+    pub fn stack(&self, slot: u32, location: usize) -> StackSlot
+        requires { location < 64 }
+        ensures { result ≡ stack_at (tight_table self.now) slot location }
     {
         match self.slots.get(slot as usize) {
-            Some(Some(known)) => known.slot(place),
+            Some(Some(known)) => known.slot(location),
             _ => StackSlot::Bytes(0),
         }
     }

@@ -1,14 +1,14 @@
 //! The listing of a text: its instructions slot by slot, and what the verifier knows at each of them.
 #![tactic(auto)]
 
-mod judged;
+mod edges;
 mod knowledge;
 mod lines;
+mod location;
 mod paint;
-mod place;
 mod seen;
 mod shown;
-mod ways;
+mod verdict;
 mod words;
 
 pub use knowledge::Knowledge;

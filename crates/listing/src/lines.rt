@@ -10,7 +10,7 @@ const COLUMNS: usize = 100;
 /// Where the items of a line begin, if what stands before them leaves the room.
 const ITEMS: usize = 56;
 
-/// Where an item begins in a line below it that has no room behind that column.
+/// Where an item begins in a line below it that has no room after that column.
 const BELOW: usize = 24;
 
 /// What stands between the text of a line and its items.
@@ -43,7 +43,7 @@ impl<'a, W: Write> Line<'a, W> {
         Ok(())
     }
 
-    /// Writes an item behind a `; `, in a line of its own where it finds no room.
+    /// Writes an item after a `; `, in a line of its own where it finds no room.
     pub fn item(&mut self, part: Part, item: &str) -> io::Result<()> {
         let from = if self.has_items {
             self.used

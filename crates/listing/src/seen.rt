@@ -8,7 +8,7 @@ use verifier_kinds::Kind;
 #[derive(Clone, Copy, Debug)]
 pub struct Seen {
     pub first: u32,
-    /// The slot behind the last one.
+    /// The slot after the last one.
     pub end: u32,
 }
 

@@ -1,14 +1,14 @@
 //! The lines of a listing.
 
-use crate::judged::{Known, Told};
 use crate::knowledge::Knowledge;
 use crate::lines::{Line, fold};
+use crate::location::{Differing, Fact, Location, STACK_SLOTS};
 use crate::paint::{Paint, Part};
-use crate::place::{Differing, Fact, Place, STACK_SLOTS};
 use crate::seen::Seen;
+use crate::verdict::{Known, Listed};
 use bpf_decode::{FRAME_POINTER, Insn};
 use disassembly::AssemblyAt;
-use findings::{Judged, Kinds, registers_read, write_limits};
+use findings::{Kinds, Verdict, registers_read, write_limits};
 use host_types::Refused;
 use std::alloc::{AllocError, Global};
 use std::io;
@@ -34,30 +34,30 @@ pub struct Beside<'a> {
     pub folded: &'a [bool],
 }
 
-/// The listing of a text that was judged.
+/// The listing of a text that was verified.
 #[derive(Drop)]
 pub struct Listing<'a> {
     alloc: Global,
-    judged: Judged<'a>,
-    told: Told,
+    verdict: Verdict<'a>,
+    all_known: Listed,
     detail: Detail,
     paint: Paint,
     beside: Option<Beside<'a>>,
 }
 
 impl<'a> Listing<'a> {
-    /// The listing of a text. There is none where no text can be judged for such maps and such a context.
+    /// The listing of a text. There is none where no text can be verified for such maps and such a context.
     pub fn of(
         alloc: Global,
-        judged: &Judged<'a>,
+        verdict: &Verdict<'a>,
         detail: Detail,
         paint: Paint,
         beside: Option<Beside<'a>>,
     ) -> Option<Listing<'a>> {
         Some(Listing {
             alloc,
-            judged: *judged,
-            told: Told::of(alloc, judged)?,
+            verdict: *verdict,
+            all_known: Listed::of(alloc, verdict)?,
             detail,
             paint,
             beside,
@@ -68,8 +68,8 @@ impl<'a> Listing<'a> {
     /// is known, and of one that has no whole slots nothing is written.
     pub fn write_slots<W: Write>(&self, output: &mut W) -> io::Result<()> {
         let mut begins = true;
-        for slot in 0..self.told.listed(self.slots()) {
-            let Some(insn) = Insn::at(self.judged.text, slot as usize) else {
+        for slot in 0..self.all_known.listed(self.slots()) {
+            let Some(insn) = Insn::at(self.verdict.text, slot as usize) else {
                 return Ok(());
             };
             if self.is_folded(slot) {
@@ -109,10 +109,10 @@ impl<'a> Listing<'a> {
         writeln!(output)
     }
 
-    /// Writes the slots behind the refused one that break a rule too, with what is known there and what would have to be:
-    /// those that are reached on ways on which no slot breaks one.
+    /// Writes the slots after the refused one that break a rule too, with what is known there and what would have to be:
+    /// those that are reached on edges on which no slot breaks one.
     pub fn write_further<W: Write>(&self, output: &mut W) -> io::Result<()> {
-        let (Some(refused), Some(known)) = (self.told.refused, &self.told.known) else {
+        let (Some(refused), Some(known)) = (self.all_known.refused, &self.all_known.known) else {
             return Ok(());
         };
         let knowledge = &known.knowledge;
@@ -131,7 +131,7 @@ impl<'a> Listing<'a> {
         knowledge: &Knowledge,
         refused: Refused,
     ) -> io::Result<()> {
-        let Some(insn) = Insn::at(self.judged.text, refused.slot as usize) else {
+        let Some(insn) = Insn::at(self.verdict.text, refused.slot as usize) else {
             return Ok(());
         };
         let rule = format!(in self.alloc; "also {}", refused.fault())?;
@@ -140,7 +140,7 @@ impl<'a> Listing<'a> {
         self.write_insn(output, refused.slot, &insn)?;
         let mut words = Vec::new(self.alloc);
         let kinds = kinds_at(knowledge, refused.slot);
-        write_limits(&mut words, &self.judged, refused, &kinds)?;
+        write_limits(&mut words, &self.verdict, refused, &kinds)?;
         match str::from_utf8(words.as_slice()) {
             Ok(words) if !words.is_empty() => {
                 let words = words.trim_start_matches("; ");
@@ -153,7 +153,7 @@ impl<'a> Listing<'a> {
 
     /// How many whole slots the text has.
     fn slots(&self) -> u32 {
-        u32::try_from(self.judged.text.len() / 8).unwrap_or(u32::MAX)
+        u32::try_from(self.verdict.text.len() / 8).unwrap_or(u32::MAX)
     }
 
     /// The slot of the original for which a slot of a lowered text stands.
@@ -167,7 +167,7 @@ impl<'a> Listing<'a> {
     /// Writes what stands first in the line of a slot: its number, of a lowered text the original's, and its bytes.
     fn write_head<W: Write>(&self, line: &mut Line<'_, W>, slot: u32) -> io::Result<()> {
         let begin = 8 * slot as usize;
-        let bytes = self.judged.text.get(begin..begin + 8).unwrap_or(&[]);
+        let bytes = self.verdict.text.get(begin..begin + 8).unwrap_or(&[]);
         let number = bytes
             .iter()
             .fold(0u64, |number, byte| number << 8 | u64::from(*byte));
@@ -175,7 +175,7 @@ impl<'a> Listing<'a> {
             Some(origin) => format!(in self.alloc; "{slot:>4} {origin:>4}  {number:016x}")?,
             None => format!(in self.alloc; "{slot:>4}  {number:016x}")?,
         };
-        let part = match self.told.refused {
+        let part = match self.all_known.refused {
             Some(refused) if refused.slot <= slot => Part::Refused,
             _ => Part::Beside,
         };
@@ -196,20 +196,20 @@ impl<'a> Listing<'a> {
         let mut line = Line::begin(output, self.paint);
         self.write_head(&mut line, slot)?;
         line.write(Part::Instruction, assembly.as_str())?;
-        if let Some(known) = &self.told.known {
+        if let Some(known) = &self.all_known.known {
             if known.knowledge.reaches(slot) {
                 self.write_known(&mut line, slot, insn, known)?;
             } else {
                 line.item(Part::Beside, "not reached")?;
             }
         }
-        if let Some(verified) = &self.told.verified {
+        if let Some(verified) = &self.all_known.verified {
             self.write_frames(&mut line, slot, verified)?;
         }
         line.end()
     }
 
-    /// Writes what is known at a slot, and where the ways that meet there say different things.
+    /// Writes what is known at a slot, and where the edges that meet there say different things.
     fn write_known<W: Write>(
         &self,
         line: &mut Line<'_, W>,
@@ -218,21 +218,21 @@ impl<'a> Listing<'a> {
         known: &Known,
     ) -> io::Result<()> {
         let knowledge = &known.knowledge;
-        let places = match self.detail {
-            Detail::Read => self.places_read(slot, insn, knowledge)?,
-            Detail::All => all_places(self.alloc)?,
+        let locations = match self.detail {
+            Detail::Read => self.locations_read(slot, insn, knowledge)?,
+            Detail::All => all_locations(self.alloc)?,
         };
-        if places.is_empty() {
+        if locations.is_empty() {
             return Ok(());
         }
-        let ways = known.ways.meeting(self.alloc, knowledge, slot)?;
-        for place in &places {
-            let fact = Fact::at(knowledge, slot, *place);
+        let edges = known.edges.fulfilling(self.alloc, knowledge, slot)?;
+        for location in &locations {
+            let fact = Fact::at(knowledge, slot, *location);
             if fact.is_some() || self.detail == Detail::Read {
-                let item = self.item_of(*place, fact)?;
+                let item = self.item_of(*location, fact)?;
                 line.item(Part::Known, item.as_str())?;
             }
-            if let Some(differing) = Differing::of(*place, ways.as_slice()) {
+            if let Some(differing) = Differing::of(*location, edges.as_slice()) {
                 let item = format!(in self.alloc; "{differing}")?;
                 line.item(Part::Differs, item.as_str())?;
             }
@@ -240,27 +240,27 @@ impl<'a> Listing<'a> {
         Ok(())
     }
 
-    /// What is known of a place, as it is shown.
-    fn item_of(&self, place: Place, fact: Fact) -> io::Result<String> {
+    /// What is known of a location, as it is shown.
+    fn item_of(&self, location: Location, fact: Fact) -> io::Result<String> {
         let item = match fact {
-            Fact::Register(None) => format!(in self.alloc; "{place} {fact}")?,
-            _ => format!(in self.alloc; "{place} = {fact}")?,
+            Fact::Register(None) => format!(in self.alloc; "{location} {fact}")?,
+            _ => format!(in self.alloc; "{location} = {fact}")?,
         };
         Ok(item)
     }
 
     /// What an instruction reads: registers, and then bytes of the stack. R10 is what it always is.
-    fn places_read(
+    fn locations_read(
         &self,
         slot: u32,
         insn: &Insn,
         knowledge: &Knowledge,
-    ) -> Result<Vec<Place>, AllocError> {
-        let mut places = Vec::new(self.alloc);
+    ) -> Result<Vec<Location>, AllocError> {
+        let mut locations = Vec::new(self.alloc);
         for register in registers_read(insn) {
-            let place = Place::Register(register);
-            if register < FRAME_POINTER && !places.contains(&place) {
-                places.push(place)?;
+            let location = Location::Register(register);
+            if register < FRAME_POINTER && !locations.contains(&location) {
+                locations.push(location)?;
             }
         }
         let value_size = self.named_value_size(slot, knowledge);
@@ -275,16 +275,16 @@ impl<'a> Listing<'a> {
                 continue;
             };
             for eight in seen.first..seen.end {
-                places.push(Place::Stack(eight))?;
+                locations.push(Location::Stack(eight))?;
             }
         }
-        Ok(places)
+        Ok(locations)
     }
 
     /// How many bytes the values of the map have that R1 names.
     fn named_value_size(&self, slot: u32, knowledge: &Knowledge) -> Option<u32> {
         match knowledge.kind(slot, 1)? {
-            Kind::MapName(map) => Some(self.judged.shapes.get(map as usize)?.as_ref()?.value_size),
+            Kind::MapName(map) => Some(self.verdict.shapes.get(map as usize)?.as_ref()?.value_size),
             _ => None,
         }
     }
@@ -315,14 +315,14 @@ fn kinds_at(knowledge: &Knowledge, slot: u32) -> Kinds {
     Kinds(kinds)
 }
 
-/// All registers, and behind them all of the stack.
-fn all_places(alloc: Global) -> Result<Vec<Place>, AllocError> {
-    let mut places = Vec::new(alloc);
+/// All registers, and after them all of the stack.
+fn all_locations(alloc: Global) -> Result<Vec<Location>, AllocError> {
+    let mut locations = Vec::new(alloc);
     for register in 0..FRAME_POINTER + 1 {
-        places.push(Place::Register(register))?;
+        locations.push(Location::Register(register))?;
     }
     for eight in 0..STACK_SLOTS {
-        places.push(Place::Stack(eight))?;
+        locations.push(Location::Stack(eight))?;
     }
-    Ok(places)
+    Ok(locations)
 }

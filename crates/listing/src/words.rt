@@ -81,7 +81,7 @@ impl fmt::Display for Numbers {
     }
 }
 
-/// A number of 64 bits. Those near to a width's end are told by it.
+/// A number of 64 bits. Those near to a width's end are named by it.
 #[derive(Clone, Copy)]
 struct Number(u64);
 

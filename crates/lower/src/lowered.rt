@@ -2,7 +2,7 @@
 
 use crate::stats::write_stats;
 use command_line::{ToLower, lowered_of};
-use engines::check::{check, question_of};
+use engines::check::{check, check_request_of};
 use engines::written;
 use hex::encode;
 use host_file::FileFault;
@@ -30,9 +30,9 @@ where
     let asked = lowered_of(alloc, words).map_err(words_fault)?;
     let hex = hex_of(rt, asked.hex)?;
     let shapes = asked.shapes.as_slice();
-    let question = question_of(alloc, hex.as_str(), shapes, asked.context)?;
-    let text = question.text.as_slice();
-    match lowered(alloc, &question) {
+    let request = check_request_of(alloc, hex.as_str(), shapes, asked.context)?;
+    let text = request.text.as_slice();
+    match lowered(alloc, &request) {
         Some(Ok(lowered)) => {
             write_text(alloc, &lowered, output)?;
             if asked.stats {

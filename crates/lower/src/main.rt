@@ -20,7 +20,7 @@ fn main(rt: HostRuntime) -> ExitCode {
     let mut errors = io::writer(&stderr);
     let outcome = run(&rt, &mut errors);
     if let Err(fault) = &outcome {
-        // The status tells it too: the words may be lost.
+        // The status says it too: the words may be lost.
         let _ = write_fault(rt.alloc(), &mut errors, fault);
     }
     ExitCode::from(status_of(&outcome))
@@ -63,7 +63,7 @@ where
     Ok(status)
 }
 
-/// Answers a line: what goes to the standard output, then each line that goes to standard error, behind `! `, and then
+/// Answers a line: what goes to the standard output, then each line that goes to standard error, after `! `, and then
 /// the status.
 fn answer_line<R, W>(rt: &R, line: &str, output: &mut W) -> Result<u8, FileFault>
 where

@@ -6,7 +6,7 @@ use Rattle.verifier.specs.Verified.{Accepted}
 use Rattle.lowering.specs.Laws.{EndAlike, Ends}
 use Rattle.tenant_runs.specs.declared.driving.RunReply.{RunReply}
 use Rattle.tenant_runs.specs.UnderWay.{HasRun}
-use Rattle.host_core.specs.declared.event.Reply.TheVariants.{Ended}
+use Rattle.host_core.specs.declared.reply.Reply.TheVariants.{Ended}
 use Rattle.host_core.specs.World.{OpenRun, World, started}
 use Rattle.host_core.specs.Happens.{IsPromisedOf}
 

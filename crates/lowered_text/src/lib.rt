@@ -1,4 +1,4 @@
-//! What the programs `lower` and `explain` tell of a lowered text: the text itself, the loops of its original and their
+//! What the programs `lower` and `explain` say of a lowered text: the text itself, the loops of its original and their
 //! copies, and what stopped a lowering.
 #![tactic(auto)]
 

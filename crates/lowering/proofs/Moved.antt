@@ -4,7 +4,7 @@ use Rattle.std.proofs.Common.{refl, ap, ◌∙◌}
 use Rattle.host_types.specs.declared.helper.MapHelper.{MapHelper}
 use Rattle.host_types.specs.declared.helper.MapHelper.TheVariants.{Lookup, Update, Delete}
 use Rattle.host_types.specs.Helpers.{helper}
-use Rattle.host_types.specs.Memory.{fetch, place, ◌>>=◌}
+use Rattle.host_types.specs.Memory.{fetch, write_number, ◌>>=◌}
 use Rattle.bpf_decode.specs.declared.insn.Insn.{Insn}
 use Rattle.bpf_decode.specs.declared.operation.Source.{Source}
 use Rattle.bpf_decode.specs.declared.operation.Source.TheVariants.{Immediate, Register}
@@ -58,7 +58,7 @@ pub store_slotless : (size : Size) (source : Source) (insn : Insn) → IsSlotles
 unfolding step_store
 store_slotless size source insn k s =
     then_alike (moved k) (register s insn.dst) _ _ (λ base. then_same (moved k) (operand source insn (moved k s)) (operand source insn s) _ _ (operand_slotless source insn k s)
-    (λ number. then_alike (moved k) (place s.memory (address_of base insn.offset) (byte_count size) number) _ _ (λ memory. refl)))
+    (λ number. then_alike (moved k) (write_number s.memory (address_of base insn.offset) (byte_count size) number) _ _ (λ memory. refl)))
 
 arguments_slotless : (helper : MapHelper) (k : ℕ) (s : MachineState) (m : ℕ) → value_arguments helper (moved k s) m ≡ value_arguments helper s m
 arguments_slotless Lookup k s m = refl

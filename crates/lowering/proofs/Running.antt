@@ -82,8 +82,8 @@ unfolding jump_from
 copy_leads text lowered origins o s t here copy e =
     let own = operation_of (insn_at lowered s.slot).opcode in
     let same : own ≡ operation_of (insn_at text o).opcode = same_operation (insn_at text o) (insn_at lowered s.slot) copy.same in
-    let way = leads_to lowered s t own (sym (step_is lowered s own (operation_here lowered s.slot here)) ∙ e) in
-    elim way [
+    let edge = leads_to lowered s t own (sym (step_is lowered s own (operation_here lowered s.slot here)) ∙ e) in
+    elim edge [
       | inl fall ↦ subst (IsInstruction lowered) (sym fall.1) (copy.falls (ap falls_through (sym same) ∙ fall.0)).instruction
       | inr jump ↦ lands_at lowered origins (jump_from lowered s.slot) (jump_from text o) t.slot copy.jumps jump
     ]

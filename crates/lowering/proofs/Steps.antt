@@ -50,10 +50,10 @@ operand_alike : (source : Source) (insn copy : Insn) (o : ℕ) (s : MachineState
 operand_alike Immediate insn copy o s src imm = ap (λ (z : ℤ). Some (sign_extended z)) (sym imm)
 operand_alike Register insn copy o s src imm = ap (λ (i : ℕ). register s i) (sym src)
 
-way_alike : (origins : List ℕ) (test : Bool) (x y : Option Outcome) (u v : Outcome) → x ≡ option_map (outcome_at origins) y → u ≡ outcome_at origins v
+edge_alike : (origins : List ℕ) (test : Bool) (x y : Option Outcome) (u v : Outcome) → x ≡ option_map (outcome_at origins) y → u ≡ outcome_at origins v
     → (if test then x else Some u) ≡ option_map (outcome_at origins) (if test then y else Some v)
-way_alike origins true x y u v jump fall = jump
-way_alike origins false x y u v jump fall = ap Some fall
+edge_alike origins true x y u v jump fall = jump
+edge_alike origins false x y u v jump fall = ap Some fall
 
 -- a conditional jump leads to alike slots
 branch_alike : (text lowered origins : List ℕ) (o : ℕ) (s : MachineState) (comparison : Comparison) (width : Width) (source : Source) (insn copy : Insn)
@@ -65,13 +65,13 @@ unfolding step_branch
 branch_alike text lowered origins o s comparison width source insn copy dst src imm fall jump =
     let there = pos (s.slot + width_at lowered s.slot) +ℤ copy.offset in
     let to = pos (o + width_at text o) +ℤ insn.offset in
-    let ways : (a b : ℕ) → (if holds comparison width a b then jumped text insn.offset (moved o s) else Some (fallen text (moved o s)))
+    let edges : (a b : ℕ) → (if holds comparison width a b then jumped text insn.offset (moved o s) else Some (fallen text (moved o s)))
     ≡ option_map (outcome_at origins) (if holds comparison width a b then jumped lowered copy.offset s else Some (fallen lowered s))
-    = λ a b. way_alike origins (holds comparison width a b) _ _ _ _ (lands_alike origins o s there to jump) (ap (λ (slot : ℕ). Next (record s { slot = slot })) fall) in
+    = λ a b. edge_alike origins (holds comparison width a b) _ _ _ _ (lands_alike origins o s there to jump) (ap (λ (slot : ℕ). Next (record s { slot = slot })) fall) in
     let second = operand_alike source insn copy o s src imm in
     let first : register s insn.dst ≡ register s copy.dst = ap (λ (i : ℕ). register s i) (sym dst) in
     then_same (outcome_at origins) (register s insn.dst) (register s copy.dst) _ _ first
-    (λ a. then_same (outcome_at origins) (operand source insn (moved o s)) (operand source copy s) _ _ second (λ b. ways a b))
+    (λ a. then_same (outcome_at origins) (operand source insn (moved o s)) (operand source copy s) _ _ second (λ b. edges a b))
 
 exit_alike : (origins : List ℕ) (o : ℕ) (s : MachineState) → step_exit (moved o s) ≡ option_map (outcome_at origins) (step_exit s)
 exit_alike origins o s = then_alike (outcome_at origins) (register s 0) _ _ (λ number. refl)
@@ -110,7 +110,7 @@ steps_by text lowered origins o s (Some (Branch comparison width source)) same f
     (ap (λ (insn : Insn). insn.dst) same) (ap (λ (insn : Insn). insn.src) same) (ap (λ (insn : Insn). insn.imm) same) (sym (fall refl)) jump
 steps_by text lowered origins o s (Some Exit) same fall jump = exit_alike origins o s
 
--- an instruction's operation is told by its opcode
+-- an instruction's operation is reported by its opcode
 pub operation_here : (text : List ℕ) (slot : ℕ) → IsInstruction text slot → operation_at text slot ≡ operation_of (insn_at text slot).opcode
 unfolding operation_at
 operation_here text slot here =

@@ -37,7 +37,7 @@ pub(crate) struct Blocks {
 
 /// The slots to which an instruction leads.
 #[derive(Clone, Copy, Debug)]
-struct Ways {
+struct Edges {
     after: u16,
     next: Option<u16>,
     jump: Option<u16>,
@@ -88,7 +88,7 @@ fn landing(program: &Program, at: u16, to: Option<u32>, rule: u32) -> Result<u16
 }
 
 /// The slots to which the instruction at a slot leads.
-fn ways_from(program: &Program, at: u16) -> Result<Ways, Refused> {
+fn edges_from(program: &Program, at: u16) -> Result<Edges, Refused> {
     let slot = u32::from(at);
     if !begins(program, slot) {
         return Err(Refused {
@@ -107,7 +107,7 @@ fn ways_from(program: &Program, at: u16) -> Result<Ways, Refused> {
     } else {
         None
     };
-    Ok(Ways {
+    Ok(Edges {
         after: at.wrapping_add(if insn.slots() == 2 { 2 } else { 1 }),
         next,
         jump,
@@ -140,14 +140,14 @@ impl Flow {
             return Ok(());
         }
         set_flag(&mut self.reached, slot);
-        let ways = ways_from(program, slot)?;
-        if let Some(next) = ways.next {
+        let edges = edges_from(program, slot)?;
+        if let Some(next) = edges.next {
             self.pending.push(next)?;
         }
-        if let Some(jump) = ways.jump {
+        if let Some(jump) = edges.jump {
             self.pending.push(jump)?;
             set_flag(&mut self.leaders, jump);
-            set_flag(&mut self.leaders, ways.after);
+            set_flag(&mut self.leaders, edges.after);
         }
         Ok(())
     }
@@ -186,8 +186,8 @@ impl Blocks {
         first: u16,
         slot: u16,
     ) -> Result<(), Refused> {
-        let ways = ways_from(program, slot)?;
-        let ends = match ways.next {
+        let edges = edges_from(program, slot)?;
+        let ends = match edges.next {
             Some(next) => is_set(&flow.leaders, next),
             None => true,
         };
@@ -198,9 +198,9 @@ impl Blocks {
             *block = Some(Block {
                 first,
                 last: slot,
-                end: ways.after,
-                next: ways.next,
-                jump: ways.jump,
+                end: edges.after,
+                next: edges.next,
+                jump: edges.jump,
             });
         }
         Ok(())

@@ -101,8 +101,8 @@ impl Deciding {
     }
 
     /// The deciding registers of a way.
-    fn on(&self, way: Option<u16>) -> Registers {
-        match way {
+    fn on(&self, edge: Option<u16>) -> Registers {
+        match edge {
             Some(slot) => self.at(slot),
             None => 0,
         }

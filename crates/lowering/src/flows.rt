@@ -16,7 +16,7 @@ use std::marker::Model;
 use verifier::{Candidate, Target};
 use verifier_kinds::{Description, Kind};
 
-/// What is known at a place of a text.
+/// What is known at a position of a text.
 #[derive(Drop)]
 pub(crate) struct Known {
     description: Description,
@@ -33,9 +33,9 @@ impl Model for Known {
     ghost invariant = { λ known. IsDescription known.description };
 }
 
-/// What is known on the ways on which a block leads on; `None` of one that no run goes.
+/// What is known on the edges on which a block leads on; `None` of one that no run goes.
 #[derive(Drop)]
-pub(crate) struct Ways {
+pub(crate) struct Edges {
     pub next: Option<Known>,
     pub jump: Option<Known>,
 }
@@ -74,7 +74,7 @@ impl Known {
         self.description.register(register)
     }
 
-    /// What is known where two ways join.
+    /// What is known where two edges join.
     #[tactic(auto, using(verifier_kinds::proofs::Joins::join_is_description))]
     pub fn joined(&self, other: &Known) -> Known {
         Known {
@@ -143,10 +143,10 @@ impl Flows {
         })
     }
 
-    /// What is known after the instruction at a slot, on each of its ways. The error is the least number of the rules
+    /// What is known after the instruction at a slot, on each of its edges. The error is the least number of the rules
     /// that it breaks. A call gets a number of its own.
     #[tactic(auto, using(crate::proofs::Targets::next_described, crate::proofs::Targets::jump_described))]
-    fn after(&self, slot: u32, known: &Known, call: u32) -> Result<Ways, u32> {
+    fn after(&self, slot: u32, known: &Known, call: u32) -> Result<Edges, u32> {
         if !begins(&self.program, slot) {
             return Err(FALLS_OFF);
         }
@@ -158,11 +158,11 @@ impl Flows {
         let next = known_at(onward.next);
         let jump = known_at(onward.jump);
         Ok(match next {
-            Some(next) if is_call => Ways {
+            Some(next) if is_call => Edges {
                 next: Some(next.with_answer(call)),
                 jump,
             },
-            _ => Ways { next, jump },
+            _ => Edges { next, jump },
         })
     }
 
@@ -175,16 +175,16 @@ impl Flows {
             )
     }
 
-    /// What is known after the last instruction of a block, on each of its ways.
-    fn after_last(&self, slot: u16, known: Known, call: u32) -> Result<Ways, Refused> {
+    /// What is known after the last instruction of a block, on each of its edges.
+    fn after_last(&self, slot: u16, known: Known, call: u32) -> Result<Edges, Refused> {
         if self.always_jumps(u32::from(slot)) {
-            return Ok(Ways {
+            return Ok(Edges {
                 next: None,
                 jump: Some(known),
             });
         }
         match self.after(u32::from(slot), &known, call) {
-            Ok(ways) => Ok(ways),
+            Ok(edges) => Ok(edges),
             Err(number) => Err(Refused {
                 number,
                 slot: u32::from(slot),
@@ -192,17 +192,17 @@ impl Flows {
         }
     }
 
-    /// What is known after a block, on each of its ways, or the first rule that one of its instructions breaks. Its
+    /// What is known after a block, on each of its edges, or the first rule that one of its instructions breaks. Its
     /// calls are numbered from a number on.
-    pub fn through(&self, block: Block, known: Known, calls: u32) -> Result<Ways, Refused> {
+    pub fn through(&self, block: Block, known: Known, calls: u32) -> Result<Edges, Refused> {
         let mut known = known;
         let mut call = calls;
         for slot in block.first..block.last {
             if begins(&self.program, u32::from(slot)) {
-                let ways = self.after_last(slot, known, call)?;
+                let edges = self.after_last(slot, known, call)?;
                 call = call.wrapping_add(1);
-                let Some(next) = ways.next else {
-                    return Ok(ways);
+                let Some(next) = edges.next else {
+                    return Ok(edges);
                 };
                 known = next;
             }

@@ -5,9 +5,9 @@ use crate::blocks::Blocks;
 use crate::stop::Stop;
 use std::alloc::Global;
 
-/// A place in an order of blocks.
+/// A position in an order of blocks.
 #[derive(Clone, Copy, Debug)]
-pub(crate) enum Place {
+pub(crate) enum Position {
     /// Where the block at a slot stands.
     Block(u16),
     /// The end of the loop whose header is the block at a slot.
@@ -28,12 +28,12 @@ struct Walk {
     visited: u32,
     /// The blocks that were visited and don't stand in the order.
     path: Vec<u16>,
-    /// The order, its last place first.
-    order: Vec<Place>,
+    /// The order, its last position first.
+    order: Vec<Position>,
 }
 
 /// The blocks in an order in which only loops lead back. The blocks of each loop are followed by its end.
-pub(crate) fn in_loop_order(alloc: Global, blocks: &Blocks) -> Result<Vec<Place>, Stop> {
+pub(crate) fn in_loop_order(alloc: Global, blocks: &Blocks) -> Result<Vec<Position>, Stop> {
     let mut numbers = Vec::new(alloc);
     for _ in 0..blocks.slots() {
         numbers.push(0)?;
@@ -89,11 +89,11 @@ impl Walk {
         }
         self.leave(slot);
         if least == number {
-            self.order.push(Place::End(slot))?;
+            self.order.push(Position::End(slot))?;
             self.least(blocks, block.jump, depth)?;
             self.least(blocks, block.next, depth)?;
         }
-        self.order.push(Place::Block(slot))?;
+        self.order.push(Position::Block(slot))?;
         Ok(number)
     }
 

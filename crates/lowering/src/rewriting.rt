@@ -13,7 +13,7 @@ use crate::covering::covers;
 use crate::deciding::Deciding;
 use crate::emit::emit;
 use crate::flows::Flows;
-use crate::order::{Place, in_loop_order};
+use crate::order::{Position, in_loop_order};
 use crate::row::Row;
 use crate::stop::Stop;
 use crate::values::Keeping;
@@ -120,7 +120,7 @@ fn own_slots(alloc: Global, slots: u16) -> Result<Vec<u16>, AllocError>
 #[derive(Drop)]
 struct Parts {
     blocks: Blocks,
-    order: Vec<Place>,
+    order: Vec<Position>,
     flows: Flows,
 }
 

@@ -4,7 +4,7 @@ use crate::blocks::{Block, Blocks};
 use crate::stop::Stop;
 use std::alloc::{AllocError, Global};
 
-/// The most items that are added behind the copies.
+/// The most items that are added after the copies.
 const MOST_ADDED: u32 = 16_384;
 
 /// An item of a row.
@@ -25,21 +25,21 @@ pub(crate) enum Item {
 
 /// Whether a block of a copy falls through or jumps.
 #[derive(Clone, Copy, Debug, PartialEq, Eq)]
-pub(crate) enum Way {
+pub(crate) enum Edge {
     Next,
     Jump,
 }
 
 impl Item {
-    /// The item where a copy leads to another item on one of its ways.
-    fn leading(self, way: Way, to: usize) -> Item {
-        match (self, way) {
-            (Item::Block { slot, jump, .. }, Way::Next) => Item::Block {
+    /// The item where a copy leads to another item on one of its edges.
+    fn leading(self, edge: Edge, to: usize) -> Item {
+        match (self, edge) {
+            (Item::Block { slot, jump, .. }, Edge::Next) => Item::Block {
                 slot,
                 next: Some(to),
                 jump,
             },
-            (Item::Block { slot, next, .. }, Way::Jump) => Item::Block {
+            (Item::Block { slot, next, .. }, Edge::Jump) => Item::Block {
                 slot,
                 next,
                 jump: Some(to),
@@ -91,7 +91,7 @@ impl Row {
         })
     }
 
-    /// Puts a copy of a block behind the others. It answers its index.
+    /// Puts a copy of a block after the others. It answers its index.
     pub fn push_block(&mut self, slot: u16) -> Result<usize, Stop> {
         let index = self.items.len();
         self.items.push(Item::Block {
@@ -104,9 +104,9 @@ impl Row {
     }
 
     /// Lets a copy lead to an item.
-    pub fn link(&mut self, index: usize, way: Way, to: usize) {
+    pub fn link(&mut self, index: usize, edge: Edge, to: usize) {
         if let Some(item) = self.items.get_mut(index) {
-            *item = item.leading(way, to);
+            *item = item.leading(edge, to);
         }
     }
 
@@ -121,8 +121,8 @@ impl Row {
         }
     }
 
-    /// Adds what the copies lead to where no run goes on: copies of blocks that have none, and, as the verifier judges
-    /// both ways of a jump, jumps back to copies behind all that runs reach.
+    /// Adds what the copies lead to where no run goes on: copies of blocks that have none, and, as the verifier verifies
+    /// both edges of a jump, jumps back to copies after all that runs reach.
     pub fn finish(&mut self, blocks: &Blocks) -> Result<(), Stop> {
         self.reached = self.items.len();
         for index in 0..usize::MAX {
@@ -141,7 +141,7 @@ impl Row {
         Ok(())
     }
 
-    /// Lets a copy lead somewhere on each of its ways.
+    /// Lets a copy lead somewhere on each of its edges.
     fn lead_on(
         &mut self,
         index: usize,
@@ -151,11 +151,11 @@ impl Row {
     ) -> Result<(), Stop> {
         if let (Some(slot), None) = (block.next, next) {
             let to = self.any_copy(slot)?;
-            self.link(index, Way::Next, to);
+            self.link(index, Edge::Next, to);
         }
         if let (Some(slot), None) = (block.jump, jump) {
             let to = self.ahead(index, slot)?;
-            self.link(index, Way::Jump, to);
+            self.link(index, Edge::Jump, to);
         }
         Ok(())
     }
@@ -168,7 +168,7 @@ impl Row {
         }
     }
 
-    /// An item to which the copy at an index may jump, for the block at a slot: if runs reach the copy, one behind it.
+    /// An item to which the copy at an index may jump, for the block at a slot: if runs reach the copy, one after it.
     fn ahead(&mut self, index: usize, slot: u16) -> Result<usize, Stop> {
         let to = self.any_copy(slot)?;
         if index >= self.reached || to > index {

@@ -4,15 +4,15 @@
 
 use crate::blocks::{Block, Blocks};
 use crate::emit::MAX_SLOTS;
-use crate::flows::{Flows, Known, Ways};
-use crate::order::Place;
-use crate::row::{Row, Way};
+use crate::flows::{Edges, Flows, Known};
+use crate::order::Position;
+use crate::row::{Edge, Row};
 use crate::stop::Stop;
 use crate::values::{Keeping, Values};
 use host_types::Refused;
 use std::alloc::{AllocError, Global};
 
-/// How many places are passed at most.
+/// How many positions are passed at most.
 const MOST_PASSED: u32 = 16_777_216;
 
 /// How many copies of one block may wait, each for values of its own.
@@ -22,7 +22,7 @@ const MOST_WAITING: usize = 128;
 #[derive(Clone, Copy)]
 struct Source {
     index: usize,
-    way: Way,
+    edge: Edge,
 }
 
 /// What is known where copies lead to the next copy of a block.
@@ -37,8 +37,8 @@ struct Arrival {
 #[derive(Drop)]
 struct Waiting {
     arrivals: Vec<Arrival>,
-    /// The place in the order.
-    place: usize,
+    /// The position in the order.
+    position: usize,
     /// Whether it is the header of a loop, and how many copies that has since it was entered.
     is_header: bool,
     copies: u32,
@@ -63,7 +63,7 @@ impl Waiting {
     fn none(alloc: Global) -> Waiting {
         Waiting {
             arrivals: Vec::new(alloc),
-            place: 0,
+            position: 0,
             is_header: false,
             copies: 0,
             total: 0,
@@ -141,7 +141,7 @@ impl Waiting {
 
 impl Walk {
     /// Before the first block.
-    pub fn begin(alloc: Global, blocks: &Blocks, order: &[Place]) -> Result<Walk, AllocError> {
+    pub fn begin(alloc: Global, blocks: &Blocks, order: &[Position]) -> Result<Walk, AllocError> {
         let mut waiting = Vec::new(alloc);
         for _ in 0..blocks.slots() {
             waiting.push(Waiting::none(alloc))?;
@@ -153,21 +153,21 @@ impl Walk {
             slots: 0,
             calls: 0,
         };
-        walk.note_places(order);
+        walk.note_positions(order);
         walk.arrive(0, Known::start(), Values::NONE, None)?;
         Ok(walk)
     }
 
     /// Notes where blocks stand in the order, and which of them are headers.
-    fn note_places(&mut self, order: &[Place]) {
-        for (index, place) in order.iter().enumerate() {
-            match *place {
-                Place::Block(slot) => {
+    fn note_positions(&mut self, order: &[Position]) {
+        for (index, position) in order.iter().enumerate() {
+            match *position {
+                Position::Block(slot) => {
                     if let Some(waiting) = self.waiting.get_mut(usize::from(slot)) {
-                        waiting.place = index;
+                        waiting.position = index;
                     }
                 }
-                Place::End(slot) => {
+                Position::End(slot) => {
                     if let Some(waiting) = self.waiting.get_mut(usize::from(slot)) {
                         waiting.is_header = true;
                     }
@@ -195,20 +195,20 @@ impl Walk {
         mut self,
         blocks: &Blocks,
         flows: &Flows,
-        order: &[Place],
+        order: &[Position],
         keeping: &Keeping,
     ) -> Result<Row, Stop> {
         let mut index = 0;
         for _ in 0..MOST_PASSED {
-            let Some(place) = order.get(index) else {
+            let Some(position) = order.get(index) else {
                 return Ok(self.row);
             };
-            let next = match *place {
-                Place::Block(slot) => {
+            let next = match *position {
+                Position::Block(slot) => {
                     let again = self.copy(blocks, flows, keeping, slot)?;
                     if again { index } else { index.wrapping_add(1) }
                 }
-                Place::End(header) => self.again(header).unwrap_or(index.wrapping_add(1)),
+                Position::End(header) => self.again(header).unwrap_or(index.wrapping_add(1)),
             };
             if self.slots > MAX_SLOTS {
                 return Err(self.full(blocks, order, index));
@@ -218,14 +218,14 @@ impl Walk {
         Err(self.full(blocks, order, index))
     }
 
-    /// The place of a loop's header, if something waits there; else the loop is left.
+    /// The position of a loop's header, if something waits there; else the loop is left.
     fn again(&mut self, header: u16) -> Option<usize> {
         let waiting = self.waiting.get_mut(usize::from(header))?;
         if waiting.arrivals.is_empty() {
             waiting.copies = 0;
             None
         } else {
-            Some(waiting.place)
+            Some(waiting.position)
         }
     }
 
@@ -270,7 +270,7 @@ impl Walk {
         let index = self.row.push_block(block.first)?;
         let Arrival { known, sources, .. } = arrival;
         for source in sources.iter() {
-            self.row.link(source.index, source.way, index);
+            self.row.link(source.index, source.edge, index);
         }
         if index > 0 && self.row.needs_jump(blocks, index - 1) {
             self.slots = self.slots.saturating_add(1);
@@ -279,7 +279,7 @@ impl Walk {
         let calls = self.calls;
         self.calls = calls.wrapping_add(u32::from(block.slots()));
         match flows.through(block, Box::into_inner(known), calls) {
-            Ok(ways) => Ok(self.lead_on(keeping, block, index, ways)?),
+            Ok(edges) => Ok(self.lead_on(keeping, block, index, edges)?),
             Err(refused) => Err(broken(refused, copy)),
         }
     }
@@ -290,20 +290,20 @@ impl Walk {
         keeping: &Keeping,
         block: Block,
         index: usize,
-        ways: Ways,
+        edges: Edges,
     ) -> Result<(), AllocError> {
-        if let (Some(slot), Some(known)) = (block.jump, ways.jump) {
+        if let (Some(slot), Some(known)) = (block.jump, edges.jump) {
             let source = Source {
                 index,
-                way: Way::Jump,
+                edge: Edge::Jump,
             };
             let values = keeping.values(slot, &known);
             self.arrive(slot, known, values, Some(source))?;
         }
-        if let (Some(slot), Some(known)) = (block.next, ways.next) {
+        if let (Some(slot), Some(known)) = (block.next, edges.next) {
             let source = Source {
                 index,
-                way: Way::Next,
+                edge: Edge::Next,
             };
             let values = keeping.values(slot, &known);
             self.arrive(slot, known, values, Some(source))?;
@@ -311,13 +311,13 @@ impl Walk {
         Ok(())
     }
 
-    /// What stops the pass at a place where the text is full: of the loops around the place the one with the most
+    /// What stops the pass at a position where the text is full: of the loops around the position the one with the most
     /// copies.
-    fn full(&self, blocks: &Blocks, order: &[Place], at: usize) -> Stop {
+    fn full(&self, blocks: &Blocks, order: &[Position], at: usize) -> Stop {
         let mut most = 1;
         let mut stop = Stop::TooLong;
-        for (index, place) in order.iter().enumerate() {
-            let Place::End(header) = *place else {
+        for (index, position) in order.iter().enumerate() {
+            let Position::End(header) = *position else {
                 continue;
             };
             let Some(waiting) = self.waiting.get(usize::from(header)) else {
@@ -325,7 +325,7 @@ impl Walk {
             };
             if waiting.copies > most && index >= at {
                 most = waiting.copies;
-                stop = endless(blocks, order.get(waiting.place..index), header, most);
+                stop = endless(blocks, order.get(waiting.position..index), header, most);
             }
         }
         stop
@@ -341,12 +341,12 @@ fn broken(refused: Refused, copy: u32) -> Stop {
     }
 }
 
-/// A loop that no range ends, by the places of its blocks.
-fn endless(blocks: &Blocks, places: Option<&[Place]>, header: u16, copies: u32) -> Stop {
+/// A loop that no range ends, by the positions of its blocks.
+fn endless(blocks: &Blocks, positions: Option<&[Position]>, header: u16, copies: u32) -> Stop {
     let mut first = u32::from(header);
     let mut last = u32::from(header);
-    for place in places.unwrap_or(&[]) {
-        if let Place::Block(slot) = *place {
+    for position in positions.unwrap_or(&[]) {
+        if let Position::Block(slot) = *position {
             if let Some(block) = blocks.at(slot) {
                 first = first.min(u32::from(block.first));
                 last = last.max(u32::from(block.last));

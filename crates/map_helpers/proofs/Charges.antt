@@ -10,7 +10,7 @@ use Rattle.host_types.specs.Shapes.{IsShape, stride_of}
 use Rattle.host_types.specs.Sharing.{Sharing}
 use Rattle.host_types.proofs.Elements.{value-in-stride}
 use Rattle.host_types.proofs.Pins.{cost_from-few}
-use Rattle.write_break.specs.Stores.{touched, store_frames, place_of_byte}
+use Rattle.write_break.specs.Stores.{touched, store_frames, page_of_byte}
 use Rattle.write_break.proofs.Stores.{touched-some, touched-one}
 
 -- where the stride divides a page, a value lies in one
@@ -20,12 +20,12 @@ value-in-page stride size key some small divides =
     let pages : count * stride ≡ 4096 = div-mul_cancel stride (dvd_of_mod-eq-zero stride divides) in
     let counted : 0 < count = positive count stride pages in
     let strides : 0 < stride = omega (arith, some, small) in
-    let place : stride * key % (count * stride) ≡ (stride * key / stride % count) * stride + stride * key % stride = mod-mul (stride * key) counted strides in
+    let page_index : stride * key % (count * stride) ≡ (stride * key / stride % count) * stride + stride * key % stride = mod-mul (stride * key) counted strides in
     let element : stride * key % stride ≡ 0 = mul-mod_right stride key in
     let number : stride * key / stride % count < count = mod-lt (stride * key / stride) counted in
     let whole : suc (stride * key / stride % count) * stride ≤ count * stride = mul-le-mul_right stride number in
     let same : stride * key % 4096 ≡ stride * key % (count * stride) = ap (λ (n : ℕ). stride * key % n) (sym pages) in
-    ends (stride * key % 4096) (stride * key / stride % count) stride count size (same ∙ place) element whole pages small
+    ends (stride * key % 4096) (stride * key / stride % count) stride count size (same ∙ page_index) element whole pages small
   where
     positive : (count stride : ℕ) → count * stride ≡ 4096 → 0 < count
     positive zero stride e = absurd (omega (arith, e))
@@ -51,6 +51,6 @@ touched-charged shape key is = by_test (4096 % stride_of shape == 0) refl
 -- the store of a value takes what is charged for an update at most
 pub cost-charged : (sharing : Sharing) (tenant m key : ℕ) (shape : Shape) → IsShape shape → store_frames sharing tenant m (element_at shape key) shape.value_size ≤ update_charge shape
 cost-charged sharing tenant m key shape is =
-    let few = cost_from-few sharing (place_of_byte tenant m (element_at shape key)) (touched (element_at shape key) shape.value_size) in
+    let few = cost_from-few sharing (page_of_byte tenant m (element_at shape key)) (touched (element_at shape key) shape.value_size) in
     let charged = touched-charged shape key is in
     omega (arith, few, charged)

@@ -4,14 +4,14 @@ use Rattle.std.proofs.lemmas.Bool.Decides.{nat_tests}
 use Rattle.std.proofs.lemmas.Nat.{div-mul-add, mod-mul-add}
 use Rattle.host_types.specs.declared.shape.Shape.{Shape}
 use Rattle.host_types.specs.Helpers.{element_at, lookup_answer}
-use Rattle.host_types.specs.Memory.{FlatMap, FlatMaps, FlatMemory, InMap, map_at, place_in_map, place_of}
+use Rattle.host_types.specs.Memory.{FlatMap, FlatMaps, FlatMemory, InMap, map_at, location_in_map, location_of}
 use Rattle.host_types.specs.Shapes.{IsShape, stride_of}
 use Rattle.host_types.proofs.Elements.{value-in-stride, element-in-map}
 
 -- bytes of an element's value lie among the values of the map
 in_value : (maps : FlatMaps) (m : ℕ) (shape : Shape) (key at size : ℕ) → IsSomeAnd (map_at maps m) (λ flat. flat.shape ≡ shape)
     → key < shape.entries → at < stride_of shape → at + size ≤ shape.value_size
-    → place_in_map maps m (element_at shape key + at) size ≡ Some (InMap m (element_at shape key + at))
+    → location_in_map maps m (element_at shape key + at) size ≡ Some (InMap m (element_at shape key + at))
 in_value maps m shape key at size is there small fits = by_map (map_at maps m) refl is
   where
     turned : element_at shape key + at ≡ key * stride_of shape + at
@@ -30,15 +30,15 @@ in_value maps m shape key at size is there small fits = by_map (map_at maps m) r
     whole = grind (arith, nat_tests)
 
     by_map : (found : Option FlatMap) → map_at maps m ≡ found → IsSomeAnd found (λ flat. flat.shape ≡ shape)
-        → place_in_map maps m (element_at shape key + at) size ≡ Some (InMap m (element_at shape key + at))
+        → location_in_map maps m (element_at shape key + at) size ≡ Some (InMap m (element_at shape key + at))
     by_map None e none = absurd none
     by_map (Some flat) e same = rw (e, same, number, rest, counted, whole) refl
 
 -- each access to an element's value, at an offset from the address that a lookup answers
 pub element_found : (shape : Shape) (m key : ℕ) (memory : FlatMemory) (at size : ℕ) → IsShape shape → IsSomeAnd (map_at memory.maps m) (λ flat. flat.shape ≡ shape)
     → key < shape.entries → 1 ≤ size → at + size ≤ shape.value_size
-    → place_of memory (lookup_answer shape m key + at) size ≡ Some (InMap m (element_at shape key + at))
-unfolding lookup_answer place_of
+    → location_of memory (lookup_answer shape m key + at) size ≡ Some (InMap m (element_at shape key + at))
+unfolding lookup_answer location_of
 element_found shape m key memory at size valid is there some fits =
     let counted : nat_lt key shape.entries ≡ true = grind (arith, nat_tests) in
     let stride = value-in-stride shape in

@@ -2,7 +2,7 @@
 use Rattle.std.specs.Prelude.{◌≡◌, ℕ, ◌+◌, ◌≤◌, ◌==◌, if◌then◌else◌, Bool, List, Option, Some, None, IfSome, IsSomeAnd}
 use Rattle.host_types.specs.declared.shape.Shape.{Shape}
 use Rattle.host_types.specs.Helpers.{element_at, update_answer, maps_updated}
-use Rattle.host_types.specs.Memory.{FlatMap, FlatMemory, InMap, map_at, place_of}
+use Rattle.host_types.specs.Memory.{FlatMap, FlatMemory, InMap, map_at, location_of}
 use Rattle.host_types.specs.Sharing.{Sharing}
 use Rattle.host_types.specs.Tenant.{TenantPart}
 use Rattle.write_break.specs.Stores.{stored_sharing, store_frames}
@@ -51,4 +51,4 @@ LeadsToElement shape m key address =
     (memory : FlatMemory) (at size : ℕ)
     → IsSomeAnd (map_at memory.maps m) (λ flat. flat.shape ≡ shape)
     → 1 ≤ size → at + size ≤ shape.value_size
-    → place_of memory (address + at) size ≡ Some (InMap m (element_at shape key + at))
+    → location_of memory (address + at) size ≡ Some (InMap m (element_at shape key + at))

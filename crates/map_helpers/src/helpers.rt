@@ -4,8 +4,8 @@ ghost use Rattle.host_types.specs.Helpers.{helper, lookup_answer, delete_answer,
 ghost use Rattle.host_types.specs.Memory.{map_at};
 ghost use Rattle.host_types.specs.Shapes.{IsShape};
 ghost use Rattle.page_table.specs.State.{part, have_of};
-ghost use Rattle.page_table.specs.Changes.{IsKeptBut, AreMapsKeptBut, KeepsSettings};
-ghost use Rattle.write_break.specs.Stores.{pinned_as};
+ghost use Rattle.page_table.specs.Changes.{OtherTenantsUnchanged, AreMapsKeptBut, KeepsSettings};
+ghost use Rattle.write_break.specs.Stores.{with_pins_of};
 ghost use Rattle.map_helpers.specs.Updates.{part_updated, update_frames, updated_sharing, updated_sharing_as, LeadsToElement, IsEnough};
 
 use crate::answer::{HelperError, update_error};
@@ -79,9 +79,9 @@ pub fn update(
     ensures helped { helper Update (part memory.old tenant).maps map key value.now flags
         ≡ Some (result, (part memory.new tenant).maps) }
     ensures part { part memory.new tenant
-        ≡ pinned_as memory.new.sharing tenant (part_updated (part memory.old tenant) map key value.now flags) }
+        ≡ with_pins_of memory.new.sharing tenant (part_updated (part memory.old tenant) map key value.now flags) }
     ensures other_maps { AreMapsKeptBut map (part memory.old tenant) (part memory.new tenant) }
-    ensures others { IsKeptBut tenant memory.old memory.new }
+    ensures others { OtherTenantsUnchanged tenant memory.old memory.new }
     ensures sharing { memory.new.sharing
         ≡ updated_sharing (part memory.old tenant) memory.old.sharing tenant map key flags }
     ensures have { have_of memory.new + update_frames (part memory.old tenant) memory.old.sharing tenant map key flags
@@ -110,9 +110,9 @@ pub fn update_as(
     ensures helped { helper Update (part memory.old tenant).maps map key value.now flags
         ≡ Some (result, (part memory.new tenant).maps) }
     ensures part { part memory.new tenant
-        ≡ pinned_as memory.new.sharing tenant (part_updated (part memory.old tenant) map key value.now flags) }
+        ≡ with_pins_of memory.new.sharing tenant (part_updated (part memory.old tenant) map key value.now flags) }
     ensures other_maps { AreMapsKeptBut map (part memory.old tenant) (part memory.new tenant) }
-    ensures others { IsKeptBut tenant memory.old memory.new }
+    ensures others { OtherTenantsUnchanged tenant memory.old memory.new }
     ensures sharing { memory.new.sharing
         ≡ updated_sharing_as is_pinned (part memory.old tenant) memory.old.sharing tenant map key flags }
     ensures have { have_of memory.new + update_frames (part memory.old tenant) memory.old.sharing tenant map key flags

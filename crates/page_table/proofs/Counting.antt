@@ -1,5 +1,5 @@
 -- A list that has each frame of count 0 once is as long as there are such frames.
-use Rattle.page_table.proofs.Base.{◌≡◌, ◌∙◌, ℕ, zero, suc, ◌+◌, ◌-◌, ◌<◌, ◌≤◌, Bool, not, List, [], ◌∷◌, length, sum_by, filter, slice_index_or, Option, Some, None, refl, sym, arith, list_any, range_with_len, sum_by-cons, nat_tests, get_or_past, ◌==◌, ◌&&◌, nat_lt, ◌++◌, sum_by_push, replicate, map, length-map, Entry, AreCounts, times, one_if_zero, frames_of, pages_on, is_frame, group_contents, unshared_at, volatile_at, PageState, Shape, group_bytes, page_at, Pass, Tenant, contents_now, TableState, IsTable, states_of, groups_of, places_on, IsTally, shared_at, view_of, IsMemory}
+use Rattle.page_table.proofs.Base.{◌≡◌, ◌∙◌, ℕ, zero, suc, ◌+◌, ◌-◌, ◌<◌, ◌≤◌, Bool, not, List, [], ◌∷◌, length, sum_by, filter, slice_index_or, Option, Some, None, refl, sym, arith, list_any, range_with_len, sum_by-cons, nat_tests, get_or_past, ◌==◌, ◌&&◌, nat_lt, ◌++◌, sum_by_push, replicate, map, length-map, Entry, AreCounts, times, one_if_zero, frames_of, pages_on, is_frame, group_contents, unshared_at, volatile_at, PageState, Shape, group_bytes, page_at, Pass, Tenant, contents_now, TableState, IsTable, states_of, groups_of, indices_on, IsTally, shared_at, view_of, IsMemory}
 use Rattle.page_table.proofs.Entries.{one_when, times-head, times-tail, one_if_zero-above, times-cons, pages_on-cons, equal}
 use Rattle.page_table.proofs.Scanning.{bytes-of_group}
 
@@ -49,7 +49,7 @@ pub length-unused : (counts unused : List ℕ) (p : ℕ → Bool) → AreCounts 
     → one_if_zero (slice_index_or counts 0 1) ≡ 0
     → ((f : ℕ) → 0 < f → f < length counts → one_if_zero (slice_index_or counts f 1) ≡ one_when (p f))
     → length unused ≡ length (filter p (range_with_len 1 (length counts - 1)))
-length-unused counts unused p are held tells = sym (occurrences-all 1 (length counts - 1) unused (λ f some. grind (arith, nat_tests, are.listed f, get_or_past, held))) ∙ occurrences-passed p 1 (length counts - 1) unused (λ f low high. are.listed f ∙ tells f (omega arith) (omega (arith, low, high)))
+length-unused counts unused p are held says = sym (occurrences-all 1 (length counts - 1) unused (λ f some. grind (arith, nat_tests, are.listed f, get_or_past, held))) ∙ occurrences-passed p 1 (length counts - 1) unused (λ f low high. are.listed f ∙ says f (omega arith) (omega (arith, low, high)))
 
 -- no page lies on a frame exactly if it isn't taken
 pub empty-frame : (f : ℕ) (xs : List (Option Entry)) → one_if_zero (pages_on f xs) ≡ one_when (not (list_any (is_frame f) (frames_of xs)))
@@ -85,25 +85,25 @@ pub shared-one : (x : Option PageState) → shared_at x ≤ 1
 shared-one x = grind arith
 
 -- without pages nothing is counted
-pub counted-none : (places : ℕ) → IsTally (record { unshared = 0; volatile = 0; shared = 0 }) (states_of (replicate places None))
-counted-none places = record { waiting = none unshared_at refl places; changed = none volatile_at refl places; shared = none shared_at refl places }
+pub counted-none : (page_indices : ℕ) → IsTally (record { unshared = 0; volatile = 0; shared = 0 }) (states_of (replicate page_indices None))
+counted-none page_indices = record { waiting = none unshared_at refl page_indices; changed = none volatile_at refl page_indices; shared = none shared_at refl page_indices }
   where
     none : (f : Option PageState → ℕ) → f None ≡ 0 → (n : ℕ) → 0 ≡ sum_by f (states_of (replicate n None))
     none f e zero = refl
     none f e (suc n) = grind (arith, sum_by-cons f None (states_of (replicate n None)), none f e n)
 
 -- as many groups as frames of groups
-pub groups_told : (table : TableState) → length (groups_of table) ≡ length table.groups
+pub groups_reported : (table : TableState) → length (groups_of table) ≡ length table.groups
 unfolding groups_of
-groups_told table = length-map table.groups (λ f. places_on 0 f table.entries)
+groups_reported table = length-map table.groups (λ f. indices_on 0 f table.entries)
 
 -- the bytes of the groups' pages are those of their frames
-pub contents_told : (table : TableState) (shapes : List (Option Shape)) (tenants : List Tenant) (pass : Pass) (reserved : ℕ) (is : IsMemory table shapes tenants reserved) (fits : IsTable table)
+pub contents_reported : (table : TableState) (shapes : List (Option Shape)) (tenants : List Tenant) (pass : Pass) (reserved : ℕ) (is : IsMemory table shapes tenants reserved) (fits : IsTable table)
     → group_contents (contents_now (view_of table shapes tenants pass)) (view_of table shapes tenants pass).sharing ≡ map (page_at table.arena) table.groups
 unfolding view_of group_contents groups_of
-contents_told table shapes tenants pass reserved is fits = by_groups table.groups (bytes-of_group table shapes tenants pass reserved is fits)
+contents_reported table shapes tenants pass reserved is fits = by_groups table.groups (bytes-of_group table shapes tenants pass reserved is fits)
   where
-    by_groups : (gs : List ℕ) → ((g : ℕ) → 1 ≤ times g gs → group_bytes (contents_now (view_of table shapes tenants pass)) (places_on 0 g table.entries) ≡ page_at table.arena g)
-        → map (group_bytes (contents_now (view_of table shapes tenants pass))) (map (λ f. places_on 0 f table.entries) gs) ≡ map (page_at table.arena) gs
+    by_groups : (gs : List ℕ) → ((g : ℕ) → 1 ≤ times g gs → group_bytes (contents_now (view_of table shapes tenants pass)) (indices_on 0 g table.entries) ≡ page_at table.arena g)
+        → map (group_bytes (contents_now (view_of table shapes tenants pass))) (map (λ f. indices_on 0 f table.entries) gs) ≡ map (page_at table.arena) gs
     by_groups [] h = refl
     by_groups (g ∷ gs) h = grind (arith, h g (times-head g gs), by_groups gs, times-tail)

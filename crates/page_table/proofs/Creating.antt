@@ -1,5 +1,5 @@
--- New pages at places one after another, and what a memory tells of a new map.
-use Rattle.page_table.proofs.Base.{◌≡◌, ◌≢◌, ◌∙◌, ℕ, zero, suc, ◌+◌, ◌-◌, ◌*◌, ◌<◌, ◌≤◌, List, [], ◌∷◌, ◌++◌, length, take, replicate, slice_index_or, slice_set, Option, Some, None, Bool, option_map, refl, sym, ap, arith, nat_le, nat_lt, ◌&&◌, if◌then◌else◌, concat, get_or-set_same, get_or-set_other, length-replicate, append-nil, take-append-drop, replicate-append-replicate, take-replicate, drop-replicate, length-map, nat_tests, get_or-replicate, ext_get_or, Pass, Shape, part_of, with_part, map_at, map_place, zero_page, IsShape, byte_len_of, new_page, length-with_part, replicate-zero_page, length-zero_page, Entry, Tenant, page_count, MemoryState, part, free_of, have_of, zero_map, part_created, IsKeptBut, AreMapsKeptBut, KeepsSettings, with_new_pages, view_of, IsMemory, TableState, groups_of, used_by, state_of, states_of, maps_of, flat_of, ArePages, ArePagesOf, contents_of, entry_content}
+-- New pages at indices one after another, and what a memory says of a new map.
+use Rattle.page_table.proofs.Base.{◌≡◌, ◌≢◌, ◌∙◌, ℕ, zero, suc, ◌+◌, ◌-◌, ◌*◌, ◌<◌, ◌≤◌, List, [], ◌∷◌, ◌++◌, length, take, replicate, slice_index_or, slice_set, Option, Some, None, Bool, option_map, refl, sym, ap, arith, nat_le, nat_lt, ◌&&◌, if◌then◌else◌, concat, get_or-set_same, get_or-set_other, length-replicate, append-nil, take-append-drop, replicate-append-replicate, take-replicate, drop-replicate, length-map, nat_tests, get_or-replicate, ext_get_or, Pass, Shape, part_of, with_part, map_at, map_index_of, zero_page, IsShape, byte_len_of, new_page, length-with_part, replicate-zero_page, length-zero_page, Entry, Tenant, page_count, MemoryState, part, free_of, have_of, zero_map, part_created, OtherTenantsUnchanged, AreMapsKeptBut, KeepsSettings, with_new_pages, view_of, IsMemory, TableState, groups_of, used_by, state_of, states_of, maps_of, flat_of, ArePages, ArePagesOf, contents_of, entry_content}
 use Rattle.std.proofs.Common.{length-set}
 use Rattle.page_table.proofs.Maps.{map_at-maps_of, part-at, written-at, part-kept, lies-apart}
 use Rattle.page_table.proofs.Reading.{content_in, few_pages, map_at-part}
@@ -41,7 +41,7 @@ concat-zeros (page ∷ pages) (suc count) read =
 -- what is filled in one of several parts leaves the others
 pub others-filled : {X : Type 0} (xs : List X) (at k m n j width : ℕ) (x : X) → at ≡ k * width + m → m + n ≤ width → at + n ≤ length xs → j ≢ k
     → part_of (with_part xs at (replicate n x)) (j * width) width ≡ part_of xs (j * width) width
-others-filled xs at k m n j width x place few inside ne =
+others-filled xs at k m n j width x page_index few inside ne =
     part-kept xs (with_part xs at (replicate n x)) (j * width) width x (grind (arith, length-with_part, length-replicate)) (λ i from less. grind (arith, nat_tests, lies-apart j k width, lies-apart k j width, filled_at xs at n i x x))
 
 -- a map whose pages are new
@@ -58,39 +58,39 @@ module _ (shape : Shape) (pages : List (List ℕ)) (is : IsShape shape) (read : 
   pub flat_created : flat_of pages shape ≡ zero_map shape
   flat_created = grind (arith, concat-zeros pages (page_count shape) read, take-replicate {X = ℕ} (byte_len_of shape) (page_count shape * 4096) 0)
 
--- what a new map at a place without one needs is there
+-- what a new map at an index without one needs is there
 module _ (table : TableState) (shapes : List (Option Shape)) (tenants : List Tenant) (pass : Pass) (reserved tenant m : ℕ) (shape : Shape)
-    (is : IsMemory table shapes tenants reserved) (small : m < 8) (inside : tenant < length tenants) (empty : slice_index_or shapes (map_place tenant m) None ≡ None) (shaped : IsShape shape) where
-  pub index_inside : map_place tenant m < length shapes
+    (is : IsMemory table shapes tenants reserved) (small : m < 8) (inside : tenant < length tenants) (empty : slice_index_or shapes (map_index_of tenant m) None ≡ None) (shaped : IsShape shape) where
+  pub index_inside : map_index_of tenant m < length shapes
   index_inside = omega (arith, is.numbers, inside, small)
 
-  pub no_contents : (i : ℕ) → map_place tenant m * 256 ≤ i → i < map_place tenant m * 256 + page_count shape → slice_index_or (contents_of table) i [] ≡ []
-  no_contents i from less = grind (arith, nat_tests, few_pages shape shaped, content_in (contents_of table) (map_place tenant m) (i - map_place tenant m * 256), is.maps.each (map_place tenant m) index_inside, empty)
+  pub no_contents : (i : ℕ) → map_index_of tenant m * 256 ≤ i → i < map_index_of tenant m * 256 + page_count shape → slice_index_or (contents_of table) i [] ≡ []
+  no_contents i from less = grind (arith, nat_tests, few_pages shape shaped, content_in (contents_of table) (map_index_of tenant m) (i - map_index_of tenant m * 256), is.maps.each (map_index_of tenant m) index_inside, empty)
 
--- the first pages of one map were filled alike, and another shape stands at its place
-module _ (table new : TableState) (shapes : List (Option Shape)) (tenants : List Tenant) (reserved t m count : ℕ) (page : List ℕ) (shape : Option Shape) (is : IsMemory table shapes tenants reserved) (small : m < 8) (inside : map_place t m < length shapes)
-    (few : count ≤ 256) (contents : contents_of new ≡ with_part (contents_of table) (map_place t m * 256) (replicate count page)) (arena : length new.arena ≡ length table.arena) where
+-- the first pages of one map were filled alike, and another shape stands at its index
+module _ (table new : TableState) (shapes : List (Option Shape)) (tenants : List Tenant) (reserved t m count : ℕ) (page : List ℕ) (shape : Option Shape) (is : IsMemory table shapes tenants reserved) (small : m < 8) (inside : map_index_of t m < length shapes)
+    (few : count ≤ 256) (contents : contents_of new ≡ with_part (contents_of table) (map_index_of t m * 256) (replicate count page)) (arena : length new.arena ≡ length table.arena) where
   pub wide_refilled : length (contents_of new) ≡ length (contents_of table)
   wide_refilled = grind (arith, length-replicate count page, length-with_part)
 
-  pub read_refilled : (n : ℕ) → slice_index_or (part_of (contents_of new) (map_place t m * 256) 256) n [] ≡ (if nat_lt n count then page else slice_index_or (part_of (contents_of table) (map_place t m * 256) 256) n [])
+  pub read_refilled : (n : ℕ) → slice_index_or (part_of (contents_of new) (map_index_of t m * 256) 256) n [] ≡ (if nat_lt n count then page else slice_index_or (part_of (contents_of table) (map_index_of t m * 256) 256) n [])
   read_refilled n = grind (arith, part-at, filled_at)
 
-  others_refilled : (j : ℕ) → j ≢ map_place t m → part_of (contents_of new) (j * 256) 256 ≡ part_of (contents_of table) (j * 256) 256
-  others_refilled j ne = grind (arith, others-filled (contents_of table) (map_place t m * 256) (map_place t m) 0 count j 256 page)
+  others_refilled : (j : ℕ) → j ≢ map_index_of t m → part_of (contents_of new) (j * 256) 256 ≡ part_of (contents_of table) (j * 256) 256
+  others_refilled j ne = grind (arith, others-filled (contents_of table) (map_index_of t m * 256) (map_index_of t m) 0 count j 256 page)
 
-  pub memory_refilled : reserved + used_by new ≤ length table.arena → ArePages shape (part_of (contents_of new) (map_place t m * 256) 256) → IsMemory new (slice_set shapes (map_place t m) shape) tenants reserved
+  pub memory_refilled : reserved + used_by new ≤ length table.arena → ArePages shape (part_of (contents_of new) (map_index_of t m * 256) 256) → IsMemory new (slice_set shapes (map_index_of t m) shape) tenants reserved
   memory_refilled room right =
-      grind (arith, nat_tests, memory_changed table new shapes (slice_set shapes (map_place t m) shape) tenants reserved t m is small inside, length-set, wide_refilled, get_or-set_other, others_refilled, get_or-set_same)
+      grind (arith, nat_tests, memory_changed table new shapes (slice_set shapes (map_index_of t m) shape) tenants reserved t m is small inside, length-set, wide_refilled, get_or-set_other, others_refilled, get_or-set_same)
 
   pub one_refilled : (pass now : Pass) (pins : List Bool) → part_of now.pins (t * 2048) 2048 ≡ pins → ((u : ℕ) → u ≢ t → part_of now.pins (u * 2048) 2048 ≡ part_of pass.pins (u * 2048) 2048)
-      → OneMap (view_of table shapes tenants pass) (view_of new (slice_set shapes (map_place t m) shape) tenants now) t m (option_map (flat_of (part_of (contents_of new) (map_place t m * 256) 256)) shape) pins
+      → OneMap (view_of table shapes tenants pass) (view_of new (slice_set shapes (map_index_of t m) shape) tenants now) t m (option_map (flat_of (part_of (contents_of new) (map_index_of t m * 256) 256)) shape) pins
   one_refilled pass now pins own others =
-      one_map table new shapes (slice_set shapes (map_place t m) shape) tenants reserved t m is small inside (length-set shapes (map_place t m) shape) wide_refilled (λ j ne. get_or-set_other shapes (map_place t m) j shape None ne) others_refilled arena
-      pass now _ pins (ap (option_map (flat_of (part_of (contents_of new) (map_place t m * 256) 256))) (get_or-set_same shapes (map_place t m) shape None inside)) own others
+      one_map table new shapes (slice_set shapes (map_index_of t m) shape) tenants reserved t m is small inside (length-set shapes (map_index_of t m) shape) wide_refilled (λ j ne. get_or-set_other shapes (map_index_of t m) j shape None ne) others_refilled arena
+      pass now _ pins (ap (option_map (flat_of (part_of (contents_of new) (map_index_of t m * 256) 256))) (get_or-set_same shapes (map_index_of t m) shape None inside)) own others
 
 -- a number without a map has no shape
-pub shape_none : (shapes : List (Option Shape)) (contents : List (List ℕ)) (t m : ℕ) → m < 8 → map_at (part_of (maps_of shapes contents) (t * 8) 8) m ≡ None → slice_index_or shapes (map_place t m) None ≡ None
+pub shape_none : (shapes : List (Option Shape)) (contents : List (List ℕ)) (t m : ℕ) → m < 8 → map_at (part_of (maps_of shapes contents) (t * 8) 8) m ≡ None → slice_index_or shapes (map_index_of t m) None ≡ None
 shape_none shapes contents t m h1 h2 = grind (arith, nat_tests, map_at-part, map_at-maps_of)
 
 -- a new map was made, and nothing else has changed
@@ -98,22 +98,22 @@ pub record Creates (old new : MemoryState) (tenant m : ℕ) (shape : Shape) (mer
   pub created : part new tenant ≡ part_created (part old tenant) m shape
   pub there : map_at (part new tenant).maps m ≡ Some (zero_map shape)
   pub other_maps : AreMapsKeptBut m (part old tenant) (part new tenant)
-  pub others : IsKeptBut tenant old new
-  pub sharing : new.sharing ≡ with_new_pages old.sharing (map_place tenant m * 256) (page_count shape) mergeable
+  pub others : OtherTenantsUnchanged tenant old new
+  pub sharing : new.sharing ≡ with_new_pages old.sharing (map_index_of tenant m * 256) (page_count shape) mergeable
   pub free : free_of new + page_count shape ≡ free_of old
   pub settings : KeepsSettings old new
 
 module _ (table new : TableState) (shapes : List (Option Shape)) (tenants : List Tenant) (pass : Pass) (reserved tenant m : ℕ) (shape : Shape) (mergeable : Bool)
-    (is : IsMemory table shapes tenants reserved) (small : m < 8) (inside : tenant < length tenants) (empty : slice_index_or shapes (map_place tenant m) None ≡ None) (shaped : IsShape shape)
-    (contents : contents_of new ≡ with_part (contents_of table) (map_place tenant m * 256) (replicate (page_count shape) zero_page))
-    (states : states_of new.entries ≡ with_part (states_of table.entries) (map_place tenant m * 256) (replicate (page_count shape) (Some (new_page mergeable))))
+    (is : IsMemory table shapes tenants reserved) (small : m < 8) (inside : tenant < length tenants) (empty : slice_index_or shapes (map_index_of tenant m) None ≡ None) (shaped : IsShape shape)
+    (contents : contents_of new ≡ with_part (contents_of table) (map_index_of tenant m * 256) (replicate (page_count shape) zero_page))
+    (states : states_of new.entries ≡ with_part (states_of table.entries) (map_index_of tenant m * 256) (replicate (page_count shape) (Some (new_page mergeable))))
     (groups : groups_of new ≡ groups_of table) (used : used_by new ≡ used_by table + page_count shape) (arena : length new.arena ≡ length table.arena)
     (room : reserved + used_by table + page_count shape ≤ length table.arena) where
   abbrev k : ℕ
-  k = map_place tenant m
+  k = map_index_of tenant m
 
-  place_inside : k < length shapes
-  place_inside = omega (arith, is.numbers, inside, small)
+  page_index_inside : k < length shapes
+  page_index_inside = omega (arith, is.numbers, inside, small)
 
   few : page_count shape ≤ 256
   few = few_pages shape shaped
@@ -122,11 +122,11 @@ module _ (table new : TableState) (shapes : List (Option Shape)) (tenants : List
   pages_new = part_of (contents_of new) (k * 256) 256
 
   read : (n : ℕ) → slice_index_or pages_new n [] ≡ (if nat_lt n (page_count shape) then zero_page else [])
-  read n = grind (arith, nat_tests, read_refilled table new shapes tenants reserved tenant m (page_count shape) zero_page (Some shape) is small place_inside few contents arena n, is.maps.each k place_inside, empty)
+  read n = grind (arith, nat_tests, read_refilled table new shapes tenants reserved tenant m (page_count shape) zero_page (Some shape) is small page_index_inside few contents arena n, is.maps.each k page_index_inside, empty)
 
   pub memory_created : IsMemory new (slice_set shapes k (Some shape)) tenants reserved
   memory_created =
-      memory_refilled table new shapes tenants reserved tenant m (page_count shape) zero_page (Some shape) is small place_inside few contents arena (omega (arith, used, room)) (pages_created shape pages_new shaped read)
+      memory_refilled table new shapes tenants reserved tenant m (page_count shape) zero_page (Some shape) is small page_index_inside few contents arena (omega (arith, used, room)) (pages_created shape pages_new shaped read)
 
   abbrev before : MemoryState
   before = view_of table shapes tenants pass
@@ -136,7 +136,7 @@ module _ (table new : TableState) (shapes : List (Option Shape)) (tenants : List
 
   one : OneMap before after tenant m (Some (zero_map shape)) (part_of pass.pins (tenant * 2048) 2048)
   one =
-      rw (← ap (λ f. Some f) (flat_created shape pages_new shaped read)) (one_refilled table new shapes tenants reserved tenant m (page_count shape) zero_page (Some shape) is small place_inside few contents arena pass pass (part_of pass.pins (tenant * 2048) 2048) refl (λ u ne. refl))
+      rw (← ap (λ f. Some f) (flat_created shape pages_new shaped read)) (one_refilled table new shapes tenants reserved tenant m (page_count shape) zero_page (Some shape) is small page_index_inside few contents arena pass pass (part_of pass.pins (tenant * 2048) 2048) refl (λ u ne. refl))
 
   created_after : part after tenant ≡ part_created (part before tenant) m shape
   unfolding view_of part
@@ -155,7 +155,7 @@ module _ (table : TableState) (shapes : List (Option Shape)) (tenants : List Ten
   unfolding view_of
   tenant_inside t h = rw (← same) at h
 
-  pub number_empty : (t m : ℕ) → m < 8 → map_at (part now t).maps m ≡ None → slice_index_or shapes (map_place t m) None ≡ None
+  pub number_empty : (t m : ℕ) → m < 8 → map_at (part now t).maps m ≡ None → slice_index_or shapes (map_index_of t m) None ≡ None
   unfolding view_of part
   number_empty t m small h = shape_none shapes (contents_of table) t m small (rw (← same) at h)
 

@@ -1,5 +1,5 @@
--- What a memory tells of a map that was taken away.
-use Rattle.page_table.proofs.Base.{◌≡◌, ◌∙◌, ℕ, zero, suc, ◌+◌, ◌-◌, ◌*◌, ◌<◌, ◌≤◌, ◌&&◌, nat_le, nat_lt, not, Bool, false, List, [], ◌∷◌, length, map, filter, replicate, slice_index_or, slice_set, Option, Some, None, option_map, refl, ap, arith, length-map, length-replicate, ext_get_or, nat_tests, ordered, Pass, Shape, part_of, with_part, FlatMap, map_at, map_place, PinsFit, Sharing, is_shared, broken, gone, gone_from, part_dropped, waiting_outside, ended_at, dropped, moved_on, length-with_part, Waiter, Tenant, page_count, MemoryState, part, free_of, have_of, IsKeptBut, AreMapsKeptBut, KeepsSettings, TableState, IsTable, AreOwnKeptOutside, ArePagesOf, IsPageAt, state_of, states_of, contents_of, sharing_of, waiting_of, used_by, view_of, is_listed, AreWaiters, IsMemory, IsPass}
+-- What a memory says of a map that was taken away.
+use Rattle.page_table.proofs.Base.{◌≡◌, ◌∙◌, ℕ, zero, suc, ◌+◌, ◌-◌, ◌*◌, ◌<◌, ◌≤◌, ◌&&◌, nat_le, nat_lt, not, Bool, false, List, [], ◌∷◌, length, map, filter, replicate, slice_index_or, slice_set, Option, Some, None, option_map, refl, ap, arith, length-map, length-replicate, ext_get_or, nat_tests, ordered, Pass, Shape, part_of, with_part, FlatMap, map_at, map_index_of, PinsFit, Sharing, is_shared, broken, gone, gone_from, part_dropped, waiting_outside, ended_at, dropped, moved_on, length-with_part, Waiter, Tenant, page_count, MemoryState, part, free_of, have_of, OtherTenantsUnchanged, AreMapsKeptBut, KeepsSettings, TableState, IsTable, AreOwnKeptOutside, ArePagesOf, IsPageAt, state_of, states_of, contents_of, sharing_of, waiting_of, used_by, view_of, is_listed, AreWaiters, IsMemory, IsPass}
 use Rattle.page_table.proofs.Creating.{filled_more, with_part-none, length-contents, filled_at, read_refilled, wide_refilled, memory_refilled, one_refilled}
 use Rattle.page_table.proofs.Reading.{content_in, few_pages, map_at-part, map_at-past}
 use Rattle.page_table.proofs.Waiters.{waiter-kept, pins-kept}
@@ -9,9 +9,9 @@ use Rattle.page_table.proofs.Vacating.{gone_from-last}
 use Rattle.page_table.proofs.Entries.{free_is, state-at, page_of_entry}
 use Rattle.page_table.proofs.Maps.{map_at-maps_of}
 
--- the waiting pages outside some places
+-- the waiting pages outside some indices
 abbrev pub outside : ℕ → ℕ → List Waiter → List Waiter
-outside first end ws = filter (λ w. not (nat_le first w.place && nat_lt w.place end)) ws
+outside first end ws = filter (λ w. not (nat_le first w.page_index && nat_lt w.page_index end)) ws
 
 listed-outside : (first end i : ℕ) (ws : List Waiter) → is_listed i ws ≡ false → is_listed i (outside first end ws) ≡ false
 listed-outside first end i [] none = refl
@@ -21,7 +21,7 @@ waiters-outside : (old new : TableState) (c : Option ℕ) (first n : ℕ) (ws : 
 waiters-outside old new c first n [] kept are = tt
 waiters-outside old new c first n (w ∷ ws) kept are = grind (arith, nat_tests, waiter-kept, listed-outside, waiters-outside old new c first n ws kept are.2)
 
--- the pass without the waiting pages at some places, and without the pins of their map
+-- the pass without the waiting pages at some indices, and without the pins of their map
 abbrev pub left_outside : ℕ → ℕ → Pass → Pass
 left_outside first end pass =
     record pass { waiting = record pass.waiting { listed = outside first end pass.waiting.listed }; pins = with_part pass.pins first (replicate 256 false) }
@@ -41,7 +41,7 @@ unfolding gone_from gone broken
 gone_from-pins s i zero inside = with_part-none s.pins i
 gone_from-pins s i (suc n) inside = let one : suc n ≡ n + 1 = omega arith in rw one (grind (arith, gone_from-last s i n, gone_from-pins s i n, filled_more s.pins i n false))
 
--- behind a map's pages nothing is pinned
+-- after a map's pages nothing is pinned
 filled-same : (pins : List Bool) (at n d : ℕ) → at + n + d ≤ length pins → ((i : ℕ) → at + n ≤ i → i < at + n + d → slice_index_or pins i false ≡ false)
     → with_part pins at (replicate (n + d) false) ≡ with_part pins at (replicate n false)
 filled-same pins at n d inside none = grind (arith, nat_tests, length-replicate n false, length-replicate, length-with_part pins at, ext_get_or false, filled_at pins at, filled_at pins at n)
@@ -56,7 +56,7 @@ pub sharing-outside : (old new : TableState) (pass : Pass) (first n : ℕ) → n
     → ((i : ℕ) → first + n ≤ i → i < first + 256 → slice_index_or pass.pins i false ≡ false)
     → sharing_of new pass ≡ record (gone_from (sharing_of old pass) first n) { pins = pass.pins }
     → sharing_of new (left_outside first (first + n) pass) ≡ record (gone_from (sharing_of old pass) first n) { waiting = waiting_outside first n (sharing_of old pass).waiting }
-sharing-outside old new pass first n few inside none told =
+sharing-outside old new pass first n few inside none answer =
     grind (arith, nat_tests, waiting-outside first n pass.waiting.listed, filled-same pass.pins first n (256 - n), gone_from-pins (sharing_of old pass) first n)
 
 -- a map that is there has one of eight numbers
@@ -68,8 +68,8 @@ number_small memory t m shape e = grind (arith, nat_tests, map_at-past, ordered)
 pub record Drops (old new : MemoryState) (tenant m : ℕ) (shape : Shape) : Type 0 where
   pub taken : part new tenant ≡ part_dropped (part old tenant) m
   pub other_maps : AreMapsKeptBut m (part old tenant) (part new tenant)
-  pub others : IsKeptBut tenant old new
-  pub sharing : new.sharing ≡ dropped old.sharing (map_place tenant m * 256) (page_count shape)
+  pub others : OtherTenantsUnchanged tenant old new
+  pub sharing : new.sharing ≡ dropped old.sharing (map_index_of tenant m * 256) (page_count shape)
   pub freed : free_of old ≤ free_of new
   pub have : have_of new + free_of old ≡ have_of old + free_of new
   pub settings : KeepsSettings old new
@@ -77,7 +77,7 @@ pub record Drops (old new : MemoryState) (tenant m : ℕ) (shape : Shape) : Type
 module _ (table : TableState) (shapes : List (Option Shape)) (tenants : List Tenant) (pass : Pass) (reserved tenant m : ℕ) (shape : Shape) (now : MemoryState) (same : view_of table shapes tenants pass ≡ now)
     (is : IsMemory table shapes tenants reserved) (inside : tenant < length now.tenants) (here : option_map (λ (flat : FlatMap). flat.shape) (map_at (part now tenant).maps m) ≡ Some shape) where
   abbrev k : ℕ
-  k = map_place tenant m
+  k = map_index_of tenant m
 
   small : m < 8
   small = number_small now tenant m shape here
@@ -97,10 +97,10 @@ module _ (table : TableState) (shapes : List (Option Shape)) (tenants : List Ten
   few = few_pages shape old_pages.shaped
 
   all : k * 256 + 256 ≤ length (contents_of table)
-  all = let h = index_inside in omega (arith, is.maps.places, h)
+  all = let h = index_inside in omega (arith, is.maps.page_indices, h)
 
-  pub places_inside : k * 256 + page_count shape ≤ length table.entries
-  places_inside = let long = length-contents table in let h = all in let f = few in omega (arith, long, h, f)
+  pub page_indices_inside : k * 256 + page_count shape ≤ length table.entries
+  page_indices_inside = let long = length-contents table in let h = all in let f = few in omega (arith, long, h, f)
 
   pub pages_there : (i : ℕ) → i < page_count shape → IsPageAt table (k * 256 + i)
   pages_there i less = let f = few in ap length (content_in (contents_of table) k i (omega (arith, less, f))) ∙ old_pages.there i less
@@ -108,9 +108,9 @@ module _ (table : TableState) (shapes : List (Option Shape)) (tenants : List Ten
   pub map_pins : PinsFit (states_of table.entries) pass.pins → k * 256 + 256 ≤ length pass.pins
   map_pins fit = omega (arith, length-contents table, length-map table.entries (option_map state_of), all, fit.as_many)
 
-  -- no place behind the map's pages is pinned
-  pub unpinned_behind : IsTable table → PinsFit (states_of table.entries) pass.pins → (i : ℕ) → k * 256 + page_count shape ≤ i → i < k * 256 + 256 → slice_index_or pass.pins i false ≡ false
-  unpinned_behind fits fit i from less = grind (arith, nat_tests, content_in (contents_of table) k (i - k * 256), old_pages, state-at table pass i, page_of_entry table i, fit.volatile i)
+  -- no index after the map's pages is pinned
+  pub unpinned_following : IsTable table → PinsFit (states_of table.entries) pass.pins → (i : ℕ) → k * 256 + page_count shape ≤ i → i < k * 256 + 256 → slice_index_or pass.pins i false ≡ false
+  unpinned_following fits fit i from less = grind (arith, nat_tests, content_in (contents_of table) k (i - k * 256), old_pages, state-at table pass i, page_of_entry table i, fit.volatile i)
 
   module _ (new : TableState) (contents : contents_of new ≡ with_part (contents_of table) (k * 256) (replicate (page_count shape) []))
       (used : used_by new ≤ used_by table) (arena : length new.arena ≡ length table.arena) where
@@ -130,7 +130,7 @@ module _ (table : TableState) (shapes : List (Option Shape)) (tenants : List Ten
     long_new = grind (arith, length-contents, wide_refilled table new shapes tenants reserved tenant m (page_count shape) [] None is small index_inside few contents arena)
 
     module _ (fits : IsTable table) (fit : PinsFit (states_of table.entries) pass.pins) (done : Pass) (ended : sharing_of new done ≡ ended_at (sharing_of new (left_outside (k * 256) (k * 256 + page_count shape) pass)) pass.cursor)
-        (told : sharing_of new pass ≡ record (gone_from (sharing_of table pass) (k * 256) (page_count shape)) { pins = pass.pins }) where
+        (answer : sharing_of new pass ≡ record (gone_from (sharing_of table pass) (k * 256) (page_count shape)) { pins = pass.pins }) where
       abbrev before : MemoryState
       before = view_of table shapes tenants pass
 
@@ -152,4 +152,4 @@ module _ (table : TableState) (shapes : List (Option Shape)) (tenants : List Ten
 
       pub drops : Drops before after tenant m shape
       unfolding view_of dropped part
-      drops = grind (arith, nat_tests, free_is table shapes tenants pass, free_is new shapes_new tenants done, one, sharing-outside, few, map_pins, unpinned_behind)
+      drops = grind (arith, nat_tests, free_is table shapes tenants pass, free_is new shapes_new tenants done, one, sharing-outside, few, map_pins, unpinned_following)

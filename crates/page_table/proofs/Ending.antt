@@ -1,6 +1,6 @@
 -- A page table stays sound where a page is added, where one leaves a frame on which others lie, and where the last page leaves its group and keeps the frame.
-use Rattle.page_table.proofs.Base.{◌≡◌, ◌≢◌, ◌∙◌, ◌⊎◌, ℕ, ◌+◌, ◌-◌, ◌<◌, ◌≤◌, ◌==◌, not, Bool, true, false, List, [], ◌∷◌, length, map, filter, slice_index_or, slice_set, Option, Some, None, option_map, refl, ap, arith, get_or-set_same, get_or-set_other, set-get_or, length-set, map-set, nil_from_length, nat_tests, get_or_default, get_or_past, ⊎_elim, zero, suc, ◌++◌, All, AllPairs, get_or_append_left, get_or-append-add, All-filter, filter_passes, AllPairs-filter, is_same, Pass, New, new_page, broken, broken_page, is_shared, left_by, without, without-length, times-gone, times-kept, some_kept, zero_page, length-zero_page, page_at, Entry, TableState, CountsState, IsTable, IsAlone, IsGroup, IsSound, AreCountsOf, times, one_if_zero, entry_at, state_of, states_of, contents_of, groups_of, sharing_of, places_on, pages_on, used_by, filter-absent, ArePlaced, groups_in}
-use Rattle.page_table.proofs.Entries.{one_when, on_one, elsewhere, equal, none_on, some_on, pages_on-set, inside, entry_content-kept, contents-set, places_on-set, groups-kept, times-head, times-tail, one_if_zero-above, group_of, told_here, counts-set, entry_fits, table-set, table-changed, counted-changed, lies_alone, apart_alone, pages_on-changed, own_pages-set, length-places, without-here, state-at, content_at, times-cons}
+use Rattle.page_table.proofs.Base.{◌≡◌, ◌≢◌, ◌∙◌, ◌⊎◌, ℕ, ◌+◌, ◌-◌, ◌<◌, ◌≤◌, ◌==◌, not, Bool, true, false, List, [], ◌∷◌, length, map, filter, slice_index_or, slice_set, Option, Some, None, option_map, refl, ap, arith, get_or-set_same, get_or-set_other, set-get_or, length-set, map-set, nil_from_length, nat_tests, get_or_default, get_or_past, ⊎_elim, zero, suc, ◌++◌, All, AllPairs, get_or_append_left, get_or-append-add, All-filter, filter_passes, AllPairs-filter, is_same, Pass, New, new_page, broken, broken_page, is_shared, left_by, without, without-length, times-gone, times-kept, some_kept, zero_page, length-zero_page, page_at, Entry, TableState, CountsState, IsTable, IsAlone, IsGroup, IsSound, AreCountsOf, times, one_if_zero, entry_at, state_of, states_of, contents_of, groups_of, sharing_of, indices_on, pages_on, used_by, filter-absent, AreNumbered, groups_in}
+use Rattle.page_table.proofs.Entries.{one_when, on_one, elsewhere, equal, none_on, some_on, pages_on-set, inside, entry_content-kept, contents-set, indices_on-set, groups-kept, times-head, times-tail, one_if_zero-above, group_of, reported_here, counts-set, entry_fits, table-set, table-changed, counted-changed, lies_alone, apart_alone, pages_on-changed, own_pages-set, length-page_indices, without-here, state-at, content_at, times-cons}
 use Rattle.page_table.proofs.Moving.{contents-entry}
 use Rattle.std.proofs.Common.{length-append}
 
@@ -14,7 +14,7 @@ pub record IsUnused (table : TableState) (f : ℕ) : Type 0 where
 pub unused-frame : (table : TableState) (counts : CountsState) (f : ℕ) → IsSound table counts → slice_index_or counts.counts f 1 ≡ 0 → IsUnused table f
 unused-frame table counts f sound h = grind (arith, nat_tests, get_or_past, get_or_default)
 
--- the table where the entry at a place lies on a frame with other bytes
+-- the table where the entry at an index lies on a frame with other bytes
 abbrev pub filled : TableState → ℕ → Entry → List ℕ → TableState
 filled table i x page = record table { arena = slice_set table.arena x.frame page; entries = slice_set table.entries i (Some x) }
 
@@ -47,7 +47,7 @@ module _ (table : TableState) (i f : ℕ) (mergeable : Bool) (is : IsTable table
 
   pub groups-added : groups_of (added table i f mergeable) ≡ groups_of table
   unfolding groups_of
-  groups-added = grind (arith, nat_tests, groups-kept table.entries (added table i f mergeable).entries table.groups, places_on-set, free, empty)
+  groups-added = grind (arith, nat_tests, groups-kept table.entries (added table i f mergeable).entries table.groups, indices_on-set, free, empty)
 
   pub used-added : used_by (added table i f mergeable) ≡ used_by table + 1
   used-added = grind (arith, nat_tests, own_pages-set, there, empty)
@@ -62,21 +62,21 @@ module _ (table : TableState) (i f : ℕ) (mergeable : Bool) (is : IsTable table
 
 -- the groups after a page left, where each still has pages
 pub groups-left : (old new : List (Option Entry)) (i : ℕ) (groups : List ℕ)
-    → ((g : ℕ) → 1 ≤ times g groups → without i (places_on 0 g old) ≡ places_on 0 g new)
+    → ((g : ℕ) → 1 ≤ times g groups → without i (indices_on 0 g old) ≡ indices_on 0 g new)
     → ((g : ℕ) → 1 ≤ times g groups → 1 ≤ pages_on g new)
-    → map (λ g. places_on 0 g new) groups ≡ left_by i (map (λ g. places_on 0 g old) groups)
+    → map (λ g. indices_on 0 g new) groups ≡ left_by i (map (λ g. indices_on 0 g old) groups)
 groups-left old new i [] same some = refl
 groups-left old new i (g ∷ gs) same some =
-    grind (arith, nat_tests, same g (times-head g gs), some g (times-head g gs), length-places 0 g new, groups-left old new i gs, times-tail)
+    grind (arith, nat_tests, same g (times-head g gs), some g (times-head g gs), length-page_indices 0 g new, groups-left old new i gs, times-tail)
 
--- a page that is shared is broken, where its state and the groups tell so
+-- a page that is shared is broken, where its state and the groups say so
 sharing-broken : (old new : TableState) (i : ℕ) (entry next : Entry) → entry_at old.entries i ≡ Some entry → is_shared entry.status ≡ true
     → new.entries ≡ slice_set old.entries i (Some next) → state_of next ≡ broken_page (state_of entry) → groups_of new ≡ left_by i (groups_of old)
     → (pass : Pass) → sharing_of new pass ≡ broken (sharing_of old pass) i
 unfolding broken
-sharing-broken old new i entry next h1 h2 h3 h4 h5 pass = grind (arith, nat_tests, told_here state_of old.entries i entry, map-set (option_map state_of) old.entries i (Some next))
+sharing-broken old new i entry next h1 h2 h3 h4 h5 pass = grind (arith, nat_tests, reported_here state_of old.entries i entry, map-set (option_map state_of) old.entries i (Some next))
 
--- the table where the page at a place lies on a frame of its own, with a copy
+-- the table where the page at an index lies on a frame of its own, with a copy
 abbrev pub left : TableState → ℕ → Entry → Entry → TableState
 left table i entry next = filled table i next (page_at table.arena entry.frame)
 
@@ -119,12 +119,12 @@ abbrev pub but : ℕ → List ℕ → List ℕ
 but f frames = filter (λ g. not (g == f)) frames
 
 -- the groups after the only page of one left it
-left-groups : (old new : List (Option Entry)) (f i : ℕ) (groups : List ℕ) → without i (places_on 0 f old) ≡ []
-    → ((g : ℕ) → 1 ≤ times g groups → g ≢ f → (without i (places_on 0 g old) ≡ places_on 0 g new) × (0 < length (places_on 0 g new)))
-    → left_by i (map (λ g. places_on 0 g old) groups) ≡ map (λ g. places_on 0 g new) (but f groups)
+left-groups : (old new : List (Option Entry)) (f i : ℕ) (groups : List ℕ) → without i (indices_on 0 f old) ≡ []
+    → ((g : ℕ) → 1 ≤ times g groups → g ≢ f → (without i (indices_on 0 g old) ≡ indices_on 0 g new) × (0 < length (indices_on 0 g new)))
+    → left_by i (map (λ g. indices_on 0 g old) groups) ≡ map (λ g. indices_on 0 g new) (but f groups)
 left-groups old new f i [] gone stay = refl
 left-groups old new f i (g ∷ gs) gone stay =
-    grind (arith, nat_tests, gone, stay g (times-head g gs), some_kept (places_on 0 g new) (left_by i (map (λ g. places_on 0 g old) gs)), left-groups old new f i gs gone, times-tail)
+    grind (arith, nat_tests, gone, stay g (times-head g gs), some_kept (indices_on 0 g new) (left_by i (map (λ g. indices_on 0 g old) gs)), left-groups old new f i gs gone, times-tail)
 
 -- a page with a frame of its own stays
 pub sharing-unbroken : (table : TableState) (pass : Pass) (i : ℕ) (entry : Entry) → IsTable table → entry_at table.entries i ≡ Some entry → entry.protected ≡ false
@@ -148,15 +148,15 @@ module _ (table : TableState) (i : ℕ) (entry new : Entry) (is : IsTable table)
   pub contents-ended : contents_of (ended table i new entry.frame) ≡ contents_of table
   contents-ended = contents-entry table i entry new (but entry.frame table.groups) here (ap (page_at table.arena) frame)
 
-  -- no place is left on the frame, and another group keeps its places
-  gone : without i (places_on 0 entry.frame table.entries) ≡ []
+  -- no index is left on the frame, and another group keeps its indices
+  gone : without i (indices_on 0 entry.frame table.entries) ≡ []
   gone =
       without-here entry.frame table.entries i None refl
-      ∙ nil_from_length _ (grind (arith, nat_tests, length-places 0 entry.frame (slice_set table.entries i None), pages_on-changed table.entries i entry None here entry.frame, one_if_zero-above, one_group))
+      ∙ nil_from_length _ (grind (arith, nat_tests, length-page_indices 0 entry.frame (slice_set table.entries i None), pages_on-changed table.entries i entry None here entry.frame, one_if_zero-above, one_group))
 
   groups-ended : groups_of (ended table i new entry.frame) ≡ left_by i (groups_of table)
   unfolding groups_of
-  groups-ended = grind (arith, nat_tests, left-groups table.entries (slice_set table.entries i (Some new)) entry.frame i table.groups gone, without-here, length-places, pages_on-ended, group_of, frame)
+  groups-ended = grind (arith, nat_tests, left-groups table.entries (slice_set table.entries i (Some new)) entry.frame i table.groups gone, without-here, length-page_indices, pages_on-ended, group_of, frame)
 
   pub sharing-ended : (pass : Pass) → sharing_of (ended table i new entry.frame) pass ≡ broken (sharing_of table pass) i
   sharing-ended = sharing-broken table (ended table i new entry.frame) i entry new here shared refl state groups-ended
@@ -211,19 +211,19 @@ groups-emptied (x ∷ xs) zero f h here once =
     let absent : All (λ g. g ≢ f) xs = λ k d less. grind (arith, once (suc k), get_or_default xs k 0 d less) in
     grind (arith, nat_tests, filter-absent (groups_in xs) f (All-filter (λ g. not (g == 0)) (λ g. g ≢ f) xs absent))
 groups-emptied (x ∷ xs) (suc i) f h here once =
-    grind (arith, nat_tests, once 0, groups-emptied xs i f (omega arith) here (λ j less e. let place = once (suc j) (omega (arith, less)) e in omega (arith, place)))
+    grind (arith, nat_tests, once 0, groups-emptied xs i f (omega arith) here (λ j less e. let page_index = once (suc j) (omega (arith, less)) e in omega (arith, page_index)))
 
-module _ (slots slot_of : List ℕ) (are : ArePlaced slots slot_of) where
+module _ (slots slot_of : List ℕ) (are : AreNumbered slots slot_of) where
   -- a group stands once
   pub stands-once : (i j : ℕ) → i < length slots → j < length slots → 0 < slice_index_or slots i 0 → slice_index_or slots j 0 ≡ slice_index_or slots i 0 → j ≡ i
   stands-once i j h k above same = grind (arith, nat_tests)
 
-  -- a new group behind the others
-  pub placed-pushed : (f : ℕ) → 0 < f → f < length slot_of → times f (groups_in slots) ≡ 0 → ArePlaced (slots ++ f ∷ []) (slice_set slot_of f (length slots))
-  placed-pushed f above there none =
+  -- a new group after the others
+  pub numbered-pushed : (f : ℕ) → 0 < f → f < length slot_of → times f (groups_in slots) ≡ 0 → AreNumbered (slots ++ f ∷ []) (slice_set slot_of f (length slots))
+  numbered-pushed f above there none =
       record {
         below = λ j less. grind (arith, nat_tests, length-append slots (f ∷ []), get_or-append-add slots (f ∷ []) 0 0, get_or_append_left slots (f ∷ []) 0 j, length-set slot_of f (length slots), are.below j, is_same j (length slots));
-        placed = λ j less full. grind (arith, nat_tests, length-append slots (f ∷ []), get_or-append-add slots (f ∷ []) 0 0, get_or_append_left slots (f ∷ []) 0 j, in-groups slots j, get_or-set_same slot_of f (length slots) 0, get_or-set_other slot_of f (slice_index_or slots j 0) (length slots) 0, are.placed j, is_same j (length slots));
+        numbered = λ j less full. grind (arith, nat_tests, length-append slots (f ∷ []), get_or-append-add slots (f ∷ []) 0 0, get_or_append_left slots (f ∷ []) 0 j, in-groups slots j, get_or-set_same slot_of f (length slots) 0, get_or-set_other slot_of f (slice_index_or slots j 0) (length slots) 0, are.numbered j, is_same j (length slots));
       }
 
   -- the groups alone

@@ -1,5 +1,5 @@
--- Entries by place: what a change of one of them changes.
-use Rattle.page_table.proofs.Base.{◌≡◌, ◌≢◌, ◌∙◌, ⊎_elim, ℕ, zero, suc, ◌+◌, ◌<◌, ◌≤◌, ◌==◌, Bool, true, false, if◌then◌else◌, List, [], ◌∷◌, length, map, option_map, slice_set, Option, Some, None, refl, ap, arith, slice_index_or, get_or-set_same, get_or-set_other, map-set, sum_by-set, sum_by-cons, nat_tests, get_or_past, get_or-map, ◌⊎◌, IfSome, sym, subst, length-set, ◌&&◌, nat_lt, list_any, sum_by, length-map, replicate, set-get_or, get_or-replicate, length-replicate, sum_by-replicate, is_shared, PageState, Entry, times, entry_at, entry_content, is_on, places_on, pages_on, one_if_zero, TableState, IsTable, IsGroup, state_of, states_of, Status, own_frame, zero_page, page_at, CountsState, IsEntry, IsAlone, AreCountsOf, LiesRight, used_by, IsOwnAt, own_pages, is_among, without, Pass, Shape, frames_free, Tenant, free_of, groups_of, view_of, state_at, cost_of, break_cost, IsSound, sharing_of, break_frames, length-zero_page, IsPageAt, contents_of}
+-- Entries by index: what a change of one of them changes.
+use Rattle.page_table.proofs.Base.{◌≡◌, ◌≢◌, ◌∙◌, ⊎_elim, ℕ, zero, suc, ◌+◌, ◌<◌, ◌≤◌, ◌==◌, Bool, true, false, if◌then◌else◌, List, [], ◌∷◌, length, map, option_map, slice_set, Option, Some, None, refl, ap, arith, slice_index_or, get_or-set_same, get_or-set_other, map-set, sum_by-set, sum_by-cons, nat_tests, get_or_past, get_or-map, ◌⊎◌, IfSome, sym, subst, length-set, ◌&&◌, nat_lt, list_any, sum_by, length-map, replicate, set-get_or, get_or-replicate, length-replicate, sum_by-replicate, is_shared, PageState, Entry, times, entry_at, entry_content, is_on, indices_on, pages_on, one_if_zero, TableState, IsTable, IsGroup, state_of, states_of, Status, own_frame, zero_page, page_at, CountsState, IsEntry, IsAlone, AreCountsOf, LiesRight, used_by, IsOwnAt, own_pages, is_among, without, Pass, Shape, frames_free, Tenant, free_of, groups_of, view_of, state_at, cost_of, break_cost, IsSound, sharing_of, break_frames, length-zero_page, IsPageAt, contents_of}
 
 abbrev pub one_when : Bool → ℕ
 one_when b = if b then 1 else 0
@@ -43,31 +43,31 @@ none_on f (x ∷ xs) (suc i) h = grind (arith, pages_on-cons f x xs, none_on f x
 pub some_on : (f : ℕ) (xs : List (Option Entry)) (i : ℕ) → is_on f (entry_at xs i) ≡ true → 1 ≤ pages_on f xs
 some_on f xs i h = grind (arith, none_on f xs i)
 
--- what is there has a place
+-- what is there has an index
 pub inside : {X : Type 0} (xs : List (Option X)) (i : ℕ) (x : X) → slice_index_or xs i None ≡ Some x → i < length xs
 inside xs i x h = grind (arith, get_or_past xs i None)
 
--- what is told of the entry at a place
-pub told_at : {X : Type 0} (tell : Entry → X) (xs : List (Option Entry)) (i : ℕ) → slice_index_or (map (option_map tell) xs) i None ≡ option_map tell (entry_at xs i)
-told_at tell xs i = get_or-map (option_map tell) xs i None
+-- what is reported of the entry at an index
+pub reported_at : {X : Type 0} (report : Entry → X) (xs : List (Option Entry)) (i : ℕ) → slice_index_or (map (option_map report) xs) i None ≡ option_map report (entry_at xs i)
+reported_at report xs i = get_or-map (option_map report) xs i None
 
 -- of a page that is there
-pub told_here : {X : Type 0} (tell : Entry → X) (xs : List (Option Entry)) (i : ℕ) (entry : Entry) → entry_at xs i ≡ Some entry
-    → slice_index_or (map (option_map tell) xs) i None ≡ Some (tell entry)
-told_here tell xs i entry here = told_at tell xs i ∙ ap (option_map tell) here
+pub reported_here : {X : Type 0} (report : Entry → X) (xs : List (Option Entry)) (i : ℕ) (entry : Entry) → entry_at xs i ≡ Some entry
+    → slice_index_or (map (option_map report) xs) i None ≡ Some (report entry)
+reported_here report xs i entry here = reported_at report xs i ∙ ap (option_map report) here
 
--- what is told is told of an entry
-pub entry_told : {X : Type 0} (tell : Entry → X) (xs : List (Option Entry)) (i : ℕ) (x : X) → slice_index_or (map (option_map tell) xs) i None ≡ Some x
-    → (entry : Entry) × (entry_at xs i ≡ Some entry) × (tell entry ≡ x)
-entry_told tell [] i x e = absurd (cc)
-entry_told tell (None ∷ xs) zero x e = absurd (cc)
-entry_told tell (Some entry ∷ xs) zero x e = let same : tell entry ≡ x = cc in (entry, refl, same)
-entry_told tell (y ∷ xs) (suc i) x e = entry_told tell xs i x e
+-- what is reported is reported of an entry
+pub entry_reported : {X : Type 0} (report : Entry → X) (xs : List (Option Entry)) (i : ℕ) (x : X) → slice_index_or (map (option_map report) xs) i None ≡ Some x
+    → (entry : Entry) × (entry_at xs i ≡ Some entry) × (report entry ≡ x)
+entry_reported report [] i x e = absurd (cc)
+entry_reported report (None ∷ xs) zero x e = absurd (cc)
+entry_reported report (Some entry ∷ xs) zero x e = let same : report entry ≡ x = cc in (entry, refl, same)
+entry_reported report (y ∷ xs) (suc i) x e = entry_reported report xs i x e
 
 -- one page changes, as callers see it
 pub states-set : (change : PageState → PageState) (xs : List (Option Entry)) (i : ℕ) (entry x : Entry) → entry_at xs i ≡ Some entry → state_of x ≡ change (state_of entry)
     → states_of (slice_set xs i (Some x)) ≡ slice_set (states_of xs) i (option_map change (slice_index_or (states_of xs) i None))
-states-set change xs i entry x here same = grind (arith, nat_tests, map-set (option_map state_of) xs i (Some x), told_here state_of xs i entry here)
+states-set change xs i entry x here same = grind (arith, nat_tests, map-set (option_map state_of) xs i (Some x), reported_here state_of xs i entry here)
 
 -- a frame that is listed is a group's
 pub group_of : (table : TableState) (f : ℕ) → IsTable table → 1 ≤ times f table.groups → IsGroup table f
@@ -83,7 +83,7 @@ pub alone : (f : ℕ) (xs : List (Option Entry)) (i j : ℕ) → i < length xs �
 alone f xs i j there one here ne =
     grind (arith, pages_on-set f xs i None there, get_or-set_other xs i j None None, none_on f (slice_set xs i None) j)
 
--- what holds of the new entry and of each other one holds at each place
+-- what holds of the new entry and of each other one holds at each index
 pub at_set : (P : Option Entry → Type 0) (xs : List (Option Entry)) (i j : ℕ) (x : Option Entry) → P None → P x → (j ≢ i → P (entry_at xs j)) → P (entry_at (slice_set xs i x) j)
 at_set P [] i j x none here there = none
 at_set P (y ∷ ys) zero zero x none here there = here
@@ -109,13 +109,13 @@ contents-set old new [] i x page e h = refl
 contents-set old new (y ∷ ys) zero x page e h = grind (arith, contents-same old new ys (λ j. h (suc j) (λ e. omega arith)))
 contents-set old new (y ∷ ys) (suc i) x page e h = grind (arith, h 0 (λ e. omega arith), contents-set old new ys i x page e (λ j ne. h (suc j) (λ e. ne (omega arith))))
 
--- the places on a frame, where an entry is replaced by one that lies there as the old one did
-pub places_on-set : (n f : ℕ) (xs : List (Option Entry)) (i : ℕ) (x : Option Entry) → is_on f x ≡ is_on f (entry_at xs i)
-    → places_on n f (slice_set xs i x) ≡ places_on n f xs
-unfolding places_on
-places_on-set n f [] i x h = refl
-places_on-set n f (y ∷ ys) zero x h = rw h refl
-places_on-set n f (y ∷ ys) (suc i) x h = rw (places_on-set (n + 1) f ys i x h) refl
+-- the indices on a frame, where an entry is replaced by one that lies there as the old one did
+pub indices_on-set : (n f : ℕ) (xs : List (Option Entry)) (i : ℕ) (x : Option Entry) → is_on f x ≡ is_on f (entry_at xs i)
+    → indices_on n f (slice_set xs i x) ≡ indices_on n f xs
+unfolding indices_on
+indices_on-set n f [] i x h = refl
+indices_on-set n f (y ∷ ys) zero x h = rw h refl
+indices_on-set n f (y ∷ ys) (suc i) x h = rw (indices_on-set (n + 1) f ys i x h) refl
 
 pub times-cons : (g h : ℕ) (gs : List ℕ) → times g (h ∷ gs) ≡ one_when (h == g) + times g gs
 times-cons g h gs = sum_by-cons (λ (x : ℕ). if x == g then 1 else 0) h gs
@@ -133,9 +133,9 @@ groups-each f h [] same = refl
 groups-each f h (g ∷ gs) same = grind (arith, same g (times-head g gs), groups-each f h gs (λ k le. same k (omega (arith, times-tail k g gs, le))))
 
 -- the groups, where each lies as before
-pub groups-kept : (old new : List (Option Entry)) (groups : List ℕ) → ((g : ℕ) → 1 ≤ times g groups → places_on 0 g new ≡ places_on 0 g old)
-    → map (λ g. places_on 0 g new) groups ≡ map (λ g. places_on 0 g old) groups
-groups-kept old new groups h = groups-each (λ g. places_on 0 g new) (λ g. places_on 0 g old) groups h
+pub groups-kept : (old new : List (Option Entry)) (groups : List ℕ) → ((g : ℕ) → 1 ≤ times g groups → indices_on 0 g new ≡ indices_on 0 g old)
+    → map (λ g. indices_on 0 g new) groups ≡ map (λ g. indices_on 0 g old) groups
+groups-kept old new groups h = groups-each (λ g. indices_on 0 g new) (λ g. indices_on 0 g old) groups h
 
 -- an entry put where a page shared a frame leaves all that share none
 pub kept-shared : (xs : List (Option Entry)) (i : ℕ) (old : Entry) (x : Option Entry) → entry_at xs i ≡ Some old → is_shared old.status ≡ true
@@ -153,7 +153,7 @@ page-on f (x ∷ xs) h = by_head (is_on f x) refl (page-on f xs)
     by_head true e rest = (0, e)
     by_head false e rest = let found = rest (grind (arith, sum_by-cons (on_one f) x xs)) in (suc found.0, found.1)
 
--- ---- What makes a table sound again after the entry at one place changed, and perhaps the page of a frame or the groups
+-- ---- What makes a table sound again after the entry at one index changed, and perhaps the page of a frame or the groups
 
 -- one where the page has a frame of its own
 abbrev pub own_one : Option Entry → ℕ
@@ -164,7 +164,7 @@ pub own_pages-set : (xs : List (Option Entry)) (i : ℕ) (x : Option Entry) → 
 unfolding own_pages
 own_pages-set xs i x h = sum_by-set own_one xs i x None h
 
--- the pages on a frame, where the entry at one place changed
+-- the pages on a frame, where the entry at one index changed
 pub pages_on-changed : (xs : List (Option Entry)) (i : ℕ) (entry : Entry) (x : Option Entry) → entry_at xs i ≡ Some entry
     → (g : ℕ) → pages_on g (slice_set xs i x) + one_when (entry.frame == g) ≡ pages_on g xs + on_one g x
 pages_on-changed xs i entry x here g = let was = ap (on_one g) here in omega (arith, pages_on-set g xs i x (inside xs i entry here), was)
@@ -177,7 +177,7 @@ is_alone table entry is own = grind (arith, nat_tests, own)
 pub lies_alone : (table : TableState) (f : ℕ) (status : Status) → is_shared status ≡ false → IsAlone table f → LiesRight table f status
 lies_alone table f status h1 h2 = grind (arith, nat_tests)
 
--- the entry at a place fits
+-- the entry at an index fits
 pub entry_fits : (table : TableState) (i : ℕ) (entry : Entry) → IsTable table → entry_at table.entries i ≡ Some entry → IsEntry table entry
 entry_fits table i entry is e = subst (λ (x : Option Entry). IfSome x (IsEntry table)) e (is.entries i)
 
@@ -186,7 +186,7 @@ pub record IsOwnEntry (table : TableState) (i : ℕ) (entry : Entry) : Type 0 wh
   pub here : entry_at table.entries i ≡ Some entry
   pub own : is_shared entry.status ≡ false
 
--- told of the table as callers see it
+-- reported of the table as callers see it
 pub own_seen : (table now : TableState) → table ≡ now → (i : ℕ) (entry : Entry) → entry_at now.entries i ≡ Some entry → IsOwnAt now i → IsOwnEntry table i entry
 own_seen table now same i entry there own = grind (arith, nat_tests)
 
@@ -243,64 +243,64 @@ pub counted-changed : (old new : TableState) (before after : CountsState) → Ar
     → AreCountsOf new after
 counted-changed old new before after counted arena sized used each = grind (arith, nat_tests, inside)
 
--- ---- Groups as lists of places: who is among those on a frame, and who has company there
+-- ---- Groups as lists of indices: who is among those on a frame, and who has company there
 
--- a place before the first one isn't among them
-before-places : (n f : ℕ) (xs : List (Option Entry)) (i : ℕ) → i < n → is_among i (places_on n f xs) ≡ false
-unfolding places_on
-before-places n f [] i h = refl
-before-places n f (x ∷ xs) i h = grind (arith, nat_tests, before-places (n + 1) f xs i)
+-- an index before the first one isn't among them
+before-page_indices : (n f : ℕ) (xs : List (Option Entry)) (i : ℕ) → i < n → is_among i (indices_on n f xs) ≡ false
+unfolding indices_on
+before-page_indices n f [] i h = refl
+before-page_indices n f (x ∷ xs) i h = grind (arith, nat_tests, before-page_indices (n + 1) f xs i)
 
--- whether a place is among those on a frame
-pub among-places : (n f : ℕ) (xs : List (Option Entry)) (i : ℕ) → is_among (n + i) (places_on n f xs) ≡ is_on f (entry_at xs i)
-unfolding places_on
-among-places n f [] i = refl
-among-places n f (x ∷ xs) zero = grind (arith, nat_tests, before-places (n + 1) f xs n)
-among-places n f (x ∷ xs) (suc i) = grind (arith, nat_tests, among-places (n + 1) f xs i)
+-- whether an index is among those on a frame
+pub among-page_indices : (n f : ℕ) (xs : List (Option Entry)) (i : ℕ) → is_among (n + i) (indices_on n f xs) ≡ is_on f (entry_at xs i)
+unfolding indices_on
+among-page_indices n f [] i = refl
+among-page_indices n f (x ∷ xs) zero = grind (arith, nat_tests, before-page_indices (n + 1) f xs n)
+among-page_indices n f (x ∷ xs) (suc i) = grind (arith, nat_tests, among-page_indices (n + 1) f xs i)
 
--- as many places as pages
-pub length-places : (n f : ℕ) (xs : List (Option Entry)) → length (places_on n f xs) ≡ pages_on f xs
-unfolding places_on pages_on
-length-places n f [] = refl
-length-places n f (x ∷ xs) = grind (arith, sum_by-cons (on_one f) x xs, length-places (n + 1) f xs)
+-- as many indices as pages
+pub length-page_indices : (n f : ℕ) (xs : List (Option Entry)) → length (indices_on n f xs) ≡ pages_on f xs
+unfolding indices_on pages_on
+length-page_indices n f [] = refl
+length-page_indices n f (x ∷ xs) = grind (arith, sum_by-cons (on_one f) x xs, length-page_indices (n + 1) f xs)
 
--- a place that isn't among them needn't be taken out
-pub without-none : (i : ℕ) (places : List ℕ) → is_among i places ≡ false → without i places ≡ places
+-- an index that isn't among them needn't be taken out
+pub without-none : (i : ℕ) (page_indices : List ℕ) → is_among i page_indices ≡ false → without i page_indices ≡ page_indices
 without-none i [] h = refl
-without-none i (j ∷ places) h = grind (arith, nat_tests, without-none i places)
+without-none i (j ∷ page_indices) h = grind (arith, nat_tests, without-none i page_indices)
 
--- the places on a frame without one
-pub without-places : (n f : ℕ) (xs : List (Option Entry)) (i : ℕ) (x : Option Entry) → is_on f x ≡ false → without (n + i) (places_on n f xs) ≡ places_on n f (slice_set xs i x)
-unfolding places_on
-without-places n f [] i x h = refl
-without-places n f (y ∷ ys) zero x h = grind (arith, nat_tests, without-none n (places_on (n + 1) f ys), before-places (n + 1) f ys n)
-without-places n f (y ∷ ys) (suc i) x h = grind (arith, nat_tests, without-places (n + 1) f ys i x)
+-- the indices on a frame without one
+pub without-page_indices : (n f : ℕ) (xs : List (Option Entry)) (i : ℕ) (x : Option Entry) → is_on f x ≡ false → without (n + i) (indices_on n f xs) ≡ indices_on n f (slice_set xs i x)
+unfolding indices_on
+without-page_indices n f [] i x h = refl
+without-page_indices n f (y ∷ ys) zero x h = grind (arith, nat_tests, without-none n (indices_on (n + 1) f ys), before-page_indices (n + 1) f ys n)
+without-page_indices n f (y ∷ ys) (suc i) x h = grind (arith, nat_tests, without-page_indices (n + 1) f ys i x)
 
--- the places from the first one on
-pub without-here : (f : ℕ) (xs : List (Option Entry)) (i : ℕ) (x : Option Entry) → is_on f x ≡ false → without i (places_on 0 f xs) ≡ places_on 0 f (slice_set xs i x)
-without-here f xs i x off = let start : i ≡ 0 + i = omega arith in ap (λ (n : ℕ). without n (places_on 0 f xs)) start ∙ without-places 0 f xs i x off
+-- the indices from the first one on
+pub without-here : (f : ℕ) (xs : List (Option Entry)) (i : ℕ) (x : Option Entry) → is_on f x ≡ false → without i (indices_on 0 f xs) ≡ indices_on 0 f (slice_set xs i x)
+without-here f xs i x off = let start : i ≡ 0 + i = omega arith in ap (λ (n : ℕ). without n (indices_on 0 f xs)) start ∙ without-page_indices 0 f xs i x off
 
 -- a group has the page, and another one
 abbrev pub has_company : ℕ → List ℕ → Bool
 has_company i group = is_among i group && nat_lt 1 (length group)
 
 company-at : (xs : List (Option Entry)) (i : ℕ) (entry : Entry) (g : ℕ) → entry_at xs i ≡ Some entry
-    → has_company i (places_on 0 g xs) ≡ ((entry.frame == g) && nat_lt 1 (pages_on g xs))
-company-at xs i entry g h1 = grind (arith, nat_tests, among-places 0 g xs i, length-places 0 g xs)
+    → has_company i (indices_on 0 g xs) ≡ ((entry.frame == g) && nat_lt 1 (pages_on g xs))
+company-at xs i entry g h1 = grind (arith, nat_tests, among-page_indices 0 g xs i, length-page_indices 0 g xs)
 
 -- a page in no group has no company
 company-none : (xs : List (Option Entry)) (groups : List ℕ) (i : ℕ) (entry : Entry) → entry_at xs i ≡ Some entry → times entry.frame groups ≡ 0
-    → list_any (has_company i) (map (λ g. places_on 0 g xs) groups) ≡ false
+    → list_any (has_company i) (map (λ g. indices_on 0 g xs) groups) ≡ false
 company-none xs [] i entry here none = refl
 company-none xs (g ∷ gs) i entry here none =
     grind (arith, nat_tests, times-cons entry.frame g gs, company-at xs i entry g here, company-none xs gs i entry here)
 
 -- a page of a group has company where another page lies on its frame
-pub company-places : (xs : List (Option Entry)) (groups : List ℕ) (i : ℕ) (entry : Entry) → entry_at xs i ≡ Some entry → times entry.frame groups ≡ 1
-    → list_any (λ group. is_among i group && nat_lt 1 (length group)) (map (λ g. places_on 0 g xs) groups) ≡ nat_lt 1 (pages_on entry.frame xs)
-company-places xs [] i entry here one = absurd (omega arith)
-company-places xs (g ∷ gs) i entry here one =
-    grind (arith, nat_tests, times-cons entry.frame g gs, company-at xs i entry g here, company-none xs gs i entry here, company-places xs gs i entry here)
+pub company-page_indices : (xs : List (Option Entry)) (groups : List ℕ) (i : ℕ) (entry : Entry) → entry_at xs i ≡ Some entry → times entry.frame groups ≡ 1
+    → list_any (λ group. is_among i group && nat_lt 1 (length group)) (map (λ g. indices_on 0 g xs) groups) ≡ nat_lt 1 (pages_on entry.frame xs)
+company-page_indices xs [] i entry here one = absurd (omega arith)
+company-page_indices xs (g ∷ gs) i entry here one =
+    grind (arith, nat_tests, times-cons entry.frame g gs, company-at xs i entry g here, company-none xs gs i entry here, company-page_indices xs gs i entry here)
 
 -- ---- The frames that are free, by the formula of the counters
 
@@ -314,11 +314,11 @@ pub free_is : (table : TableState) (shapes : List (Option Shape)) (tenants : Lis
 unfolding view_of frames_free groups_of own_pages
 free_is table shapes tenants pass fits = grind (arith, nat_tests, length-map, own_of_states)
 
--- ---- What the break of a page costs, told by its group and by its frame
+-- ---- What the break of a page costs, reported by its group and by its frame
 
 -- the state of a page is that of its entry
 pub state-at : (table : TableState) (pass : Pass) (i : ℕ) → state_at (sharing_of table pass) i ≡ option_map state_of (entry_at table.entries i)
-state-at table pass i = told_at state_of table.entries i
+state-at table pass i = reported_at state_of table.entries i
 
 -- the break of a page on the frame f takes a frame where it shares its own, and others hold that too: among all pages, or those that are left
 pub shared-cost : (table : TableState) (f : ℕ) (xs : List (Option Entry)) (in_company : Bool) → IsTable table → 1 ≤ pages_on f xs → (times f table.groups ≡ 1 → in_company ≡ nat_lt 1 (pages_on f xs))
@@ -333,9 +333,9 @@ lies-there table i entry here = some_on entry.frame table.entries i (ap (is_on e
 pub cost-is : (table : TableState) (pass : Pass) (i : ℕ) → IsTable table → break_cost (sharing_of table pass) i ≡ break_frames table i
 unfolding break_cost groups_of break_frames
 cost-is table pass i h1 =
-    grind (arith, nat_tests, state-at table pass i, company-places table.entries table.groups i, shared-cost, lies-there)
+    grind (arith, nat_tests, state-at table pass i, company-page_indices table.entries table.groups i, shared-cost, lies-there)
 
--- the same, told by the count of the page's frame
+-- the same, reported by the count of the page's frame
 pub cost-counted : (table : TableState) (counts : CountsState) (i : ℕ) (entry : Entry) → IsSound table counts → entry_at table.entries i ≡ Some entry
     → break_frames table i ≡ one_when (entry.protected && nat_lt 1 (slice_index_or counts.counts entry.frame 0))
 unfolding break_frames
@@ -384,13 +384,13 @@ module _ (table : TableState) (i : ℕ) (entry : Entry) (page : List ℕ) (is : 
 
 -- a table without pages
 abbrev pub empty_table : ℕ → ℕ → TableState
-empty_table frames places = record { arena = replicate frames zero_page; entries = replicate places None; groups = [] }
+empty_table frames page_indices = record { arena = replicate frames zero_page; entries = replicate page_indices None; groups = [] }
 
 pub all_same : {X : Type 0} (x : X) (n i : ℕ) → slice_index_or (replicate n x) i x ≡ x
 all_same x n i = grind (arith, get_or-replicate n i x x, get_or_past (replicate n x) i x, length-replicate n x)
 
-pub sound-new : (frames places : ℕ) (counts : CountsState) → 1 ≤ frames → frames ≤ 4096 → places ≤ 32768
-    → counts.counts ≡ slice_set (replicate frames 0) 0 1 → length counts.unused + 1 ≡ frames → IsSound (empty_table frames places) counts
+pub sound-new : (frames page_indices : ℕ) (counts : CountsState) → 1 ≤ frames → frames ≤ 4096 → page_indices ≤ 32768
+    → counts.counts ≡ slice_set (replicate frames 0) 0 1 → length counts.unused + 1 ≡ frames → IsSound (empty_table frames page_indices) counts
 unfolding pages_on own_pages
-sound-new frames places counts some small few are fewer =
+sound-new frames page_indices counts some small few are fewer =
     grind (arith, nat_tests, length-replicate, get_or-replicate, length-zero_page, all_same, length-set, sum_by-replicate)

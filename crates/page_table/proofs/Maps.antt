@@ -5,14 +5,14 @@ use Rattle.std.proofs.lemmas.List.{get_or-append_right}
 
 -- parts of lists
 
-with_part-behind : {X : Type 0} (xs ys part : List X) (n at : ℕ) → length xs ≡ n → with_part (xs ++ ys) (n + at) part ≡ xs ++ with_part ys at part
+with_part-at_or_before : {X : Type 0} (xs ys part : List X) (n at : ℕ) → length xs ≡ n → with_part (xs ++ ys) (n + at) part ≡ xs ++ with_part ys at part
 unfolding with_part
-with_part-behind xs ys part n at h =
-    let place : n + at + length part ≡ length xs + (at + length part) = omega arith in
+with_part-at_or_before xs ys part n at h =
+    let page_index : n + at + length part ≡ length xs + (at + length part) = omega arith in
     let front : n + at ≡ length xs + at = omega arith in
     let back : drop (length xs + (at + length part)) (xs ++ ys) ≡ drop (at + length part) ys =
     sym (drop-drop (at + length part) (length xs) (xs ++ ys)) ∙ ap (drop (at + length part)) (drop_at xs ys (length xs) refl) in
-    rw (place, front, take-append-add xs ys at, back, append_assoc xs (take at ys) part, append_assoc xs (take at ys ++ part) (drop (at + length part) ys)) refl
+    rw (page_index, front, take-append-add xs ys at, back, append_assoc xs (take at ys) part, append_assoc xs (take at ys ++ part) (drop (at + length part) ys)) refl
 
 -- what is read of a part, and of a list with a part written
 pub part-at : {X : Type 0} (xs : List X) (at size i : ℕ) (d : X) → slice_index_or (part_of xs at size) i d ≡ (if nat_lt i size then slice_index_or xs (at + i) d else d)
@@ -46,7 +46,7 @@ pub part_of-set_other : {X : Type 0} (xs : List X) (k n j width : ℕ) (x : X) �
 part_of-set_other xs k n j width x h ne =
     part-kept xs (slice_set xs (k * width + n) x) (j * width) width x (length-set xs (k * width + n) x) (λ i from less. grind (arith, lies-apart j k width, lies-apart k j width, get_or-set_other xs (k * width + n) i x x))
 
--- the map at a place
+-- the map at an index
 pub map_at-maps_of : (shapes : List (Option Shape)) (contents : List (List ℕ)) (k : ℕ)
     → slice_index_or (maps_of shapes contents) k None ≡ option_map (flat_of (part_of contents (k * 256) 256)) (slice_index_or shapes k None)
 unfolding maps_of
@@ -77,8 +77,8 @@ pub concat-written : (pages : List (List ℕ)) (n at : ℕ) (bytes : List ℕ) �
 concat-written [] n at bytes there fits = grind (arith, there 0)
 concat-written (page ∷ pages) zero at bytes there fits = grind (arith, there 0, with_part-append page (concat pages) bytes at)
 concat-written (page ∷ pages) (suc n) at bytes there fits =
-    let place : 4096 + (n * 4096 + at) ≡ suc n * 4096 + at = omega arith in
-    grind (arith, there 0, concat-written pages n at bytes (λ m le. there (suc m) (omega arith)), with_part-behind page (concat pages) bytes 4096 (n * 4096 + at), ap (λ (m : ℕ). with_part (page ++ concat pages) m bytes) place)
+    let page_index : 4096 + (n * 4096 + at) ≡ suc n * 4096 + at = omega arith in
+    grind (arith, there 0, concat-written pages n at bytes (λ m le. there (suc m) (omega arith)), with_part-at_or_before page (concat pages) bytes 4096 (n * 4096 + at), ap (λ (m : ℕ). with_part (page ++ concat pages) m bytes) page_index)
 
 -- pages that are there up to a number, and not from it on
 pub length-concat : (pages : List (List ℕ)) (count : ℕ) → ((n : ℕ) → n < count → length (slice_index_or pages n []) ≡ 4096) → ((n : ℕ) → count ≤ n → slice_index_or pages n [] ≡ [])

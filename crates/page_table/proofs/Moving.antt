@@ -1,10 +1,10 @@
 -- A page keeps its frame or moves to a shared frame of the same bytes: pages are marked, move, and join groups; and two pages become a new last group.
-use Rattle.page_table.proofs.Base.{◌≡◌, ◌≢◌, ◌∙◌, ◌⊎◌, ℕ, zero, suc, ◌+◌, ◌-◌, ◌<◌, ◌≤◌, ◌==◌, true, false, List, [], ◌∷◌, ◌++◌, length, map, slice_index_or, slice_set, Option, Some, None, option_map, refl, ap, arith, get_or-set_other, length-set, set-get_or, sum_by-cons, length-append, map-append, nat_tests, Pass, Status, Grouped, Zero, is_shared, with_status, with_page, joined_by, paired, zeroed, zero_page, page_at, Entry, TableState, CountsState, IsOwnAt, IsTable, IsEntry, IsAlone, IsGroup, IsSound, AreCountsOf, times, one_if_zero, entry_at, contents_of, groups_of, state_of, states_of, sharing_of, forgets, is_on, places_on, pages_on, used_by, joined_on, marked}
-use Rattle.page_table.proofs.Entries.{one_when, on_one, equal, inside, alone, group_of, contents-set, places_on-set, groups-kept, groups-each, pages_on-cons, none_on, states-set, told_here, one_if_zero-above, counts-set, page-on, is_alone, entry_fits, table-set, table-changed, counted-changed, apart_alone, fits-after, own_seen, pages_on-changed, lies_alone, own_pages-set, content_at}
+use Rattle.page_table.proofs.Base.{◌≡◌, ◌≢◌, ◌∙◌, ◌⊎◌, ℕ, zero, suc, ◌+◌, ◌-◌, ◌<◌, ◌≤◌, ◌==◌, true, false, List, [], ◌∷◌, ◌++◌, length, map, slice_index_or, slice_set, Option, Some, None, option_map, refl, ap, arith, get_or-set_other, length-set, set-get_or, sum_by-cons, length-append, map-append, nat_tests, Pass, Status, Grouped, Zero, is_shared, with_status, with_page, joined_by, paired, zeroed, zero_page, page_at, Entry, TableState, CountsState, IsOwnAt, IsTable, IsEntry, IsAlone, IsGroup, IsSound, AreCountsOf, times, one_if_zero, entry_at, contents_of, groups_of, state_of, states_of, sharing_of, forgets, is_on, indices_on, pages_on, used_by, joined_on, marked}
+use Rattle.page_table.proofs.Entries.{one_when, on_one, equal, inside, alone, group_of, contents-set, indices_on-set, groups-kept, groups-each, pages_on-cons, none_on, states-set, reported_here, one_if_zero-above, counts-set, page-on, is_alone, entry_fits, table-set, table-changed, counted-changed, apart_alone, fits-after, own_seen, pages_on-changed, lies_alone, own_pages-set, content_at}
 use Rattle.page_table.proofs.Counting.{times-push}
 use Rattle.page_table.proofs.Waiters.{waiting-forgets}
 
--- the table with another entry at a place
+-- the table with another entry at an index
 abbrev pub with_entry : TableState → ℕ → Entry → TableState
 with_entry table i x = record table { entries = slice_set table.entries i (Some x) }
 
@@ -19,7 +19,7 @@ contents-entry table i entry x groups here same =
 abbrev pub marked_entry : Entry → Status → ℕ → Entry
 marked_entry entry status last = record entry { status = status; last = Some last }
 
--- the page at a place has its own frame, and so has one of the new status
+-- the page at an index has its own frame, and so has one of the new status
 module _ (table : TableState) (i : ℕ) (entry : Entry) (status : Status) (last : ℕ)
     (is : IsTable table) (here : entry_at table.entries i ≡ Some entry) (own : is_shared entry.status ≡ false) (own_new : is_shared status ≡ false) where
   abbrev marks : Entry
@@ -30,7 +30,7 @@ module _ (table : TableState) (i : ℕ) (entry : Entry) (status : Status) (last 
 
   pub sharing-marked : (pass : Pass) → sharing_of (with_entry table i marks) pass ≡ with_page (sharing_of table pass) i (marked status last)
   unfolding groups_of
-  sharing-marked pass = grind (arith, nat_tests, states-set (marked status last), here, groups-kept table.entries (with_entry table i marks).entries, places_on-set)
+  sharing-marked pass = grind (arith, nat_tests, states-set (marked status last), here, groups-kept table.entries (with_entry table i marks).entries, indices_on-set)
 
   pub used-marked : used_by (with_entry table i marks) ≡ used_by table
   used-marked = grind (arith, own_pages-set, inside, own, own_new)
@@ -42,13 +42,13 @@ module _ (table : TableState) (i : ℕ) (entry : Entry) (status : Status) (last 
         counted = grind (arith, nat_tests, counted-changed, used-marked, pages_on-marked);
       }
 
--- no more pages lie on a frame than there are places
+-- no more pages lie on a frame than there are indices
 pub pages_on-le : (f : ℕ) (xs : List (Option Entry)) → pages_on f xs ≤ length xs
 unfolding pages_on
 pages_on-le f [] = omega arith
 pages_on-le f (x ∷ xs) = grind (arith, sum_by-cons (on_one f) x xs, pages_on-le f xs)
 
--- The page at a place has its own frame, and another entry puts it on a shared frame of the same bytes.
+-- The page at an index has its own frame, and another entry puts it on a shared frame of the same bytes.
 pub record IsMove (table : TableState) (i : ℕ) (entry x : Entry) : Type 0 where
   pub is : IsTable table
   pub here : entry_at table.entries i ≡ Some entry
@@ -89,7 +89,7 @@ module _ (table : TableState) (i : ℕ) (entry x : Entry) (move : IsMove table i
   pub used-moved : used_by (with_entry table i x) + 1 ≡ used_by table
   used-moved = grind (arith, own_pages-set, inside, own, shared)
 
-  -- fewer pages lie on the new frame than there are places
+  -- fewer pages lie on the new frame than there are indices
   pub few : (counts : CountsState) → AreCountsOf table counts → slice_index_or counts.counts x.frame 0 ≤ 32768
   few counts counted =
       grind (arith, nat_tests, counted.counted x.frame fits.frame, pages_on-moved x.frame, lone, pages_on-le x.frame (with_entry table i x).entries, length-set table.entries i (Some x), is.few)
@@ -110,39 +110,39 @@ module _ (table : TableState) (i : ℕ) (entry x : Entry) (move : IsMove table i
 
   pub sharing-zeroed : IsMerged entry x 0 Zero → (pass : Pass) → sharing_of (with_entry table i x) (forgets i pass) ≡ zeroed (sharing_of table pass) i
   unfolding zeroed groups_of
-  sharing-zeroed to pass = grind (arith, nat_tests, states-set (with_status Zero), groups-kept table.entries (with_entry table i x).entries table.groups, places_on-set, lone, group_of, here, waiting-forgets)
+  sharing-zeroed to pass = grind (arith, nat_tests, states-set (with_status Zero), groups-kept table.entries (with_entry table i x).entries table.groups, indices_on-set, lone, group_of, here, waiting-forgets)
 
--- no places are on a frame without pages
-places-none : (n f : ℕ) (xs : List (Option Entry)) → pages_on f xs ≡ 0 → places_on n f xs ≡ []
-unfolding places_on
-places-none n f [] h = refl
-places-none n f (x ∷ xs) h = grind (arith, pages_on-cons f x xs, places-none (n + 1) f xs)
+-- no indices are on a frame without pages
+page_indices-none : (n f : ℕ) (xs : List (Option Entry)) → pages_on f xs ≡ 0 → indices_on n f xs ≡ []
+unfolding indices_on
+page_indices-none n f [] h = refl
+page_indices-none n f (x ∷ xs) h = grind (arith, pages_on-cons f x xs, page_indices-none (n + 1) f xs)
 
--- the place of the one page on a frame
-places-one : (n f : ℕ) (xs : List (Option Entry)) (i : ℕ) → pages_on f xs ≡ 1 → is_on f (entry_at xs i) ≡ true → places_on n f xs ≡ (n + i) ∷ []
-unfolding places_on
-places-one n f [] i h on = absurd (cc)
-places-one n f (x ∷ xs) zero h on = grind (arith, pages_on-cons f x xs, places-none (n + 1) f xs)
-places-one n f (x ∷ xs) (suc i) h on = grind (arith, pages_on-cons f x xs, places-one (n + 1) f xs i, none_on f xs i)
+-- the index of the one page on a frame
+page_indices-one : (n f : ℕ) (xs : List (Option Entry)) (i : ℕ) → pages_on f xs ≡ 1 → is_on f (entry_at xs i) ≡ true → indices_on n f xs ≡ (n + i) ∷ []
+unfolding indices_on
+page_indices-one n f [] i h on = absurd (cc)
+page_indices-one n f (x ∷ xs) zero h on = grind (arith, pages_on-cons f x xs, page_indices-none (n + 1) f xs)
+page_indices-one n f (x ∷ xs) (suc i) h on = grind (arith, pages_on-cons f x xs, page_indices-one (n + 1) f xs i, none_on f xs i)
 
--- a place before all others joins them as the first
-joined-first : (n m f : ℕ) (xs : List (Option Entry)) → n < m → joined_by n (places_on m f xs) ≡ n ∷ places_on m f xs
-unfolding places_on joined_by
+-- an index before all others joins them as the first
+joined-first : (n m f : ℕ) (xs : List (Option Entry)) → n < m → joined_by n (indices_on m f xs) ≡ n ∷ indices_on m f xs
+unfolding indices_on joined_by
 joined-first n m f [] h = refl
 joined-first n m f (x ∷ xs) h = grind (arith, nat_tests, joined-first n (m + 1) f xs)
 
--- the places on a frame to which a page moves
-places-joined : (n f : ℕ) (xs : List (Option Entry)) (j : ℕ) (y : Option Entry) → j < length xs → is_on f y ≡ true → is_on f (entry_at xs j) ≡ false
-    → places_on n f (slice_set xs j y) ≡ joined_by (n + j) (places_on n f xs)
-unfolding places_on joined_by
-places-joined n f [] j y h on off = absurd (omega arith)
-places-joined n f (x ∷ xs) zero y h on off = grind (arith, nat_tests, joined-first n (n + 1) f xs)
-places-joined n f (x ∷ xs) (suc j) y h on off = grind (arith, nat_tests, places-joined (n + 1) f xs j y)
+-- the indices on a frame to which a page moves
+page_indices-joined : (n f : ℕ) (xs : List (Option Entry)) (j : ℕ) (y : Option Entry) → j < length xs → is_on f y ≡ true → is_on f (entry_at xs j) ≡ false
+    → indices_on n f (slice_set xs j y) ≡ joined_by (n + j) (indices_on n f xs)
+unfolding indices_on joined_by
+page_indices-joined n f [] j y h on off = absurd (omega arith)
+page_indices-joined n f (x ∷ xs) zero y h on off = grind (arith, nat_tests, joined-first n (n + 1) f xs)
+page_indices-joined n f (x ∷ xs) (suc j) y h on off = grind (arith, nat_tests, page_indices-joined (n + 1) f xs j y)
 
--- the places from the first one on
+-- the indices from the first one on
 joined-here : (f : ℕ) (xs : List (Option Entry)) (j : ℕ) (y : Option Entry) → j < length xs → is_on f y ≡ true → is_on f (entry_at xs j) ≡ false
-    → places_on 0 f (slice_set xs j y) ≡ joined_by j (places_on 0 f xs)
-joined-here f xs j y h on off = grind (arith, places-joined 0 f xs j y)
+    → indices_on 0 f (slice_set xs j y) ≡ joined_by j (indices_on 0 f xs)
+joined-here f xs j y h on off = grind (arith, page_indices-joined 0 f xs j y)
 
 -- a page joins the group of the frame f
 module _ (table : TableState) (i : ℕ) (entry x : Entry) (f : ℕ) (move : IsMove table i entry x) (to : IsMerged entry x f Grouped) where
@@ -150,12 +150,12 @@ module _ (table : TableState) (i : ℕ) (entry x : Entry) (f : ℕ) (move : IsMo
 
   pub groups-joined : groups_of (with_entry table i x) ≡ map (joined_on table i f) table.groups
   unfolding groups_of
-  groups-joined = grind (arith, nat_tests, groups-each, lone, joined-here, inside, places_on-set)
+  groups-joined = grind (arith, nat_tests, groups-each, lone, joined-here, inside, indices_on-set)
 
   pub states-joined : states_of (with_entry table i x).entries ≡ slice_set (states_of table.entries) i (option_map (with_status Grouped) (slice_index_or (states_of table.entries) i None))
   states-joined = states-set (with_status Grouped) table.entries i entry x here to.state
 
--- the table with a new last group, of the page at a place alone
+-- the table with a new last group, of the page at an index alone
 abbrev pub founded : TableState → ℕ → Entry → TableState
 founded table i x = record table { entries = slice_set table.entries i (Some x); groups = table.groups ++ x.frame ∷ [] }
 
@@ -226,16 +226,16 @@ module _ (table : TableState) (i j : ℕ) (one other x y : Entry) (pairing : IsP
   sound-pair old mid new counted share kept release left =
       sound-moved (founded table i x) j other y move old mid new (counted-founded old counted) (rw to_second.frame share) kept release left
 
-  -- another group keeps its places
-  places-kept : (g : ℕ) → 1 ≤ times g table.groups → places_on 0 g (with_pair table i j x y).entries ≡ places_on 0 g table.entries
-  places-kept g some = grind (arith, nat_tests, places_on-set, here-founded, entry_fits, is_alone, pairing)
+  -- another group keeps its indices
+  page_indices-kept : (g : ℕ) → 1 ≤ times g table.groups → indices_on 0 g (with_pair table i j x y).entries ≡ indices_on 0 g table.entries
+  page_indices-kept g some = grind (arith, nat_tests, indices_on-set, here-founded, entry_fits, is_alone, pairing)
 
-  -- the new group's places
-  places-pair : places_on 0 x.frame (with_pair table i j x y).entries ≡ joined_by i (j ∷ [])
+  -- the new group's indices
+  page_indices-pair : indices_on 0 x.frame (with_pair table i j x y).entries ≡ joined_by i (j ∷ [])
   unfolding joined_by
-  places-pair =
-      grind (arith, nat_tests, inside, here-founded, equal, alone, places_on-set, pairing, places-one 0, joined-here, is_alone, entry_fits)
+  page_indices-pair =
+      grind (arith, nat_tests, inside, here-founded, equal, alone, indices_on-set, pairing, page_indices-one 0, joined-here, is_alone, entry_fits)
 
   pub sharing-pair : (pass : Pass) → sharing_of (with_pair table i j x y) (forgets i (forgets j pass)) ≡ paired (sharing_of table pass) i j
   unfolding paired groups_of
-  sharing-pair pass = grind (arith, nat_tests, told_here state_of, states-set (with_status Grouped), here-founded, map-append (λ g. places_on 0 g (with_pair table i j x y).entries) table.groups (x.frame ∷ []), groups-kept table.entries (with_pair table i j x y).entries table.groups places-kept, places-pair, waiting-forgets)
+  sharing-pair pass = grind (arith, nat_tests, reported_here state_of, states-set (with_status Grouped), here-founded, map-append (λ g. indices_on 0 g (with_pair table i j x y).entries) table.groups (x.frame ∷ []), groups-kept table.entries (with_pair table i j x y).entries table.groups page_indices-kept, page_indices-pair, waiting-forgets)

@@ -1,17 +1,17 @@
--- How many contents have more than one group, told by the chains of the tree: of all contents one is taken out
+-- How many contents have more than one group, reported by the chains of the tree: of all contents one is taken out
 -- after another, and how often it occurs is the length of its chain.
-use Rattle.page_table.proofs.Base.{◌≡◌, ◌≢◌, ◌⊎◌, ⊎_elim, ℕ, suc, ◌+◌, nat_lt, not, bytes_eq, true, false, if◌then◌else◌, List, [], ◌∷◌, ◌++◌, length, map, filter, slice_index_or, All, AllPairs, refl, ap, arith, concat, Less, length-append, append-nil, All-tail, filter-append, sum_by-cons, sum_by-append, is_eq-slice_cmp, bytes_eq-Decides, nat_tests, All-head, times_among, repeated_among, seconds_behind, page_at, Groups, IsChain, has, content, order, many_in, dups_in, chains_among, dups_among, filter-chain, filter-no_chain, IsTreeOf}
+use Rattle.page_table.proofs.Base.{◌≡◌, ◌≢◌, ◌⊎◌, ⊎_elim, ℕ, suc, ◌+◌, nat_lt, not, bytes_eq, true, false, if◌then◌else◌, List, [], ◌∷◌, ◌++◌, length, map, filter, slice_index_or, All, AllPairs, refl, ap, arith, concat, Less, length-append, append-nil, All-tail, filter-append, sum_by-cons, sum_by-append, is_eq-slice_cmp, bytes_eq-Decides, nat_tests, All-head, times_among, repeated_among, seconds_following, page_at, Groups, IsChain, has, content, order, many_in, dups_in, chains_among, dups_among, filter-chain, filter-no_chain, IsTreeOf}
 use Rattle.page_table.proofs.Entries.{one_when}
 
 -- all contents but one
 abbrev out : List ℕ → List (List ℕ) → List (List ℕ)
 out c all = filter (λ other. not (bytes_eq other c)) all
 
-tells : (x c : List ℕ) → ((bytes_eq x c ≡ true) × (x ≡ c)) ⊎ ((bytes_eq x c ≡ false) × (x ≢ c))
-tells x c = grind (arith, nat_tests, bytes_eq-Decides)
+says : (x c : List ℕ) → ((bytes_eq x c ≡ true) × (x ≡ c)) ⊎ ((bytes_eq x c ≡ false) × (x ≢ c))
+says x c = grind (arith, nat_tests, bytes_eq-Decides)
 
 differ : (x c : List ℕ) → x ≢ c → bytes_eq x c ≡ false
-differ x c ne = ⊎_elim (λ is. absurd (ne is.1)) (λ is. is.0) (tells x c)
+differ x c ne = ⊎_elim (λ is. absurd (ne is.1)) (λ is. is.0) (says x c)
 
 times-cons : (b x : List ℕ) (xs : List (List ℕ)) → times_among b (x ∷ xs) ≡ one_when (bytes_eq x b) + times_among b xs
 unfolding times_among
@@ -29,13 +29,13 @@ times-other : (b c : List ℕ) (xs : List (List ℕ)) → b ≢ c → times_amon
 times-other b c [] ne = refl
 times-other b c (x ∷ xs) ne = grind (arith, times-cons b x xs, times-cons b x (out c xs), (bytes_eq-Decides x c).0, (bytes_eq-Decides x b).0, times-other b c xs)
 
-seconds-none : (before : List (List ℕ)) → seconds_behind before [] ≡ 0
-unfolding seconds_behind
+seconds-none : (before : List (List ℕ)) → seconds_following before [] ≡ 0
+unfolding seconds_following
 seconds-none before = refl
 
 -- the second one of a content, and those of all others
-seconds-split : (c : List ℕ) (before xs : List (List ℕ)) → seconds_behind before xs + many_in (times_among c before) ≡ many_in (times_among c before + times_among c xs) + seconds_behind (out c before) (out c xs)
-unfolding times_among seconds_behind
+seconds-split : (c : List ℕ) (before xs : List (List ℕ)) → seconds_following before xs + many_in (times_among c before) ≡ many_in (times_among c before + times_among c xs) + seconds_following (out c before) (out c xs)
+unfolding times_among seconds_following
 seconds-split c before [] = grind (arith, times-none c, seconds-none before, seconds-none (out c before))
 seconds-split c before (x ∷ xs) = grind (arith, nat_tests, filter-append, append-nil, bytes_eq-Decides, sum_by-append, times-cons, times-none, times-other, seconds-split c (before ++ x ∷ []) xs)
 
@@ -76,26 +76,26 @@ module _ (arena : List (List ℕ)) where
     whole = grind (arith, nat_tests, filter-append, filter-chain, length-append, (bytes_eq-Decides (content arena chain) (content arena chain)).1, same (content arena chain))
 
     less : (b : List ℕ) → times_among b (out (content arena chain) all) ≡ length (filter (has arena b) (concat chains))
-    less b = grind (arith, nat_tests, filter-append, filter-chain, length-append, tells b (content arena chain), differ, times-gone (content arena chain) all, times-other b (content arena chain) all, same b)
+    less b = grind (arith, nat_tests, filter-append, filter-chain, length-append, says b (content arena chain), differ, times-gone (content arena chain) all, times-other b (content arena chain) all, same b)
 
   -- the numbers of contents that occur twice or more are those of the chains
-  pub nodes-told : (chains all : List (List ℕ)) → All (IsChain arena) chains → AllPairs (λ c d. order (content arena c) (content arena d) ≡ Less) chains
+  pub nodes-answer : (chains all : List (List ℕ)) → All (IsChain arena) chains → AllPairs (λ c d. order (content arena c) (content arena d) ≡ Less) chains
       → ((b : List ℕ) → times_among b all ≡ length (filter (has arena b) (concat chains)))
-      → (seconds_behind [] all ≡ chains_among chains) × (repeated_among all all ≡ dups_among chains)
+      → (seconds_following [] all ≡ chains_among chains) × (repeated_among all all ≡ dups_among chains)
   unfolding chains_among dups_among
-  nodes-told [] [] are ascending same = (seconds-none [], repeated-none [])
-  nodes-told [] (x ∷ xs) are ascending same = absurd (omega (arith, times-cons x x xs, ap one_when ((bytes_eq-Decides x x).1 refl), same x))
-  nodes-told (chain ∷ chains) all are ascending same =
+  nodes-answer [] [] are ascending same = (seconds-none [], repeated-none [])
+  nodes-answer [] (x ∷ xs) are ascending same = absurd (omega (arith, times-cons x x xs, ap one_when ((bytes_eq-Decides x x).1 refl), same x))
+  nodes-answer (chain ∷ chains) all are ascending same =
       let is = All-head (IsChain arena) chain chains are in
       let none = unlike chain chains are ascending in
       let here = whole chain chains all is none same in
-      let rest = nodes-told chains (out (content arena chain) all) (All-tail (IsChain arena) chain chains are) (λ i j d less there. ascending (suc i) (suc j) d (omega arith) (omega arith)) (less chain chains all is none same) in (
+      let rest = nodes-answer chains (out (content arena chain) all) (All-tail (IsChain arena) chain chains are) (λ i j d less there. ascending (suc i) (suc j) d (omega arith) (omega arith)) (less chain chains all is none same) in (
         grind (arith, nat_tests, seconds-split (content arena chain) [] all, times-none (content arena chain), here, rest.0, sum_by-cons (λ (one : List ℕ). many_in (length one)) chain chains),
         grind (arith, nat_tests, repeated-split (content arena chain) all all, here, rest.1, sum_by-cons (λ (one : List ℕ). dups_in (length one)) chain chains),
       )
 
   -- the numbers of the tree are those of the groups' contents
   pub tree-nodes : (groups : List ℕ) (tree : Groups) → IsTreeOf arena groups tree
-      → (seconds_behind [] (map (page_at arena) groups) ≡ chains_among tree.chains)
+      → (seconds_following [] (map (page_at arena) groups) ≡ chains_among tree.chains)
       × (repeated_among (map (page_at arena) groups) (map (page_at arena) groups) ≡ dups_among tree.chains)
-  tree-nodes groups tree is = grind (arith, nat_tests, nodes-told tree.chains, times-has)
+  tree-nodes groups tree is = grind (arith, nat_tests, nodes-answer tree.chains, times-has)

@@ -1,11 +1,11 @@
--- What a memory tells of a page that is there.
-use Rattle.page_table.proofs.Base.{◌≡◌, ◌∙◌, ℕ, ◌+◌, ◌*◌, ◌<◌, ◌≤◌, List, [], length, take, drop, slice_index_or, Option, Some, None, option_map, unwrap_or, sym, ap, arith, get_or_past, get_or-take, get_or-drop, nat_tests, common_steps, ordered, Pass, Shape, Page, part_of, FlatMap, FlatMaps, map_at, map_place, page_place, page_bytes, IsShape, byte_len_of, state_at, Entry, Tenant, page_count, part, bytes_of_map, frame_at, IsPageOf, TableState, IsPageAt, maps_of, flat_of, ArePagesOf, AreMaps, contents_of, entry_at, state_of, view_of, IsMemory}
+-- What a memory says of a page that is there.
+use Rattle.page_table.proofs.Base.{◌≡◌, ◌∙◌, ℕ, ◌+◌, ◌*◌, ◌<◌, ◌≤◌, List, [], length, take, drop, slice_index_or, Option, Some, None, option_map, unwrap_or, sym, ap, arith, get_or_past, get_or-take, get_or-drop, nat_tests, common_steps, ordered, Pass, Shape, Page, part_of, FlatMap, FlatMaps, map_at, map_index_of, page_index_of, page_bytes, IsShape, byte_len_of, state_at, Entry, Tenant, page_count, part, bytes_of_map, frame_at, IsPageOf, TableState, IsPageAt, maps_of, flat_of, ArePagesOf, AreMaps, contents_of, entry_at, state_of, view_of, IsMemory}
 use Rattle.std.proofs.Common.{length-take}
 use Rattle.page_table.proofs.Maps.{map_at-maps_of, page_bytes-page}
-use Rattle.page_table.proofs.Entries.{told_here}
+use Rattle.page_table.proofs.Entries.{reported_here}
 
 -- a tenant's map by its number, among the maps of all tenants
-pub map_at-part : (maps : FlatMaps) (t m : ℕ) → m < 8 → map_at (part_of maps (t * 8) 8) m ≡ map_at maps (map_place t m)
+pub map_at-part : (maps : FlatMaps) (t m : ℕ) → m < 8 → map_at (part_of maps (t * 8) 8) m ≡ map_at maps (map_index_of t m)
 unfolding part_of
 map_at-part maps t m small = get_or-take 8 (drop (t * 8) maps) m None small ∙ get_or-drop (t * 8) maps m None
 
@@ -21,12 +21,12 @@ bytes_in flat = unwrap_or (option_map (λ (flat : FlatMap). flat.bytes) flat) []
 -- a byte of a tenant's map is in a map of the memory
 pub record IsLocated (shapes : List (Option Shape)) (contents : List (List ℕ)) (t m at : ℕ) : Type 0 where
   pub small : m < 8
-  pub inside : map_place t m < length shapes
+  pub inside : map_index_of t m < length shapes
   pub shape : Shape
-  pub here : slice_index_or shapes (map_place t m) None ≡ Some shape
-  pub pages : ArePagesOf shape (part_of contents (map_place t m * 256) 256)
+  pub here : slice_index_or shapes (map_index_of t m) None ≡ Some shape
+  pub pages : ArePagesOf shape (part_of contents (map_index_of t m * 256) 256)
   pub within : at < byte_len_of shape
-  pub flat : map_at (part_of (maps_of shapes contents) (t * 8) 8) m ≡ Some (flat_of (part_of contents (map_place t m * 256) 256) shape)
+  pub flat : map_at (part_of (maps_of shapes contents) (t * 8) 8) m ≡ Some (flat_of (part_of contents (map_index_of t m * 256) 256) shape)
 
 pub located : (shapes : List (Option Shape)) (contents : List (List ℕ)) (t m at : ℕ) → AreMaps shapes contents
     → at < length (bytes_in (map_at (part_of (maps_of shapes contents) (t * 8) 8) m)) → IsLocated shapes contents t m at
@@ -52,17 +52,17 @@ module _ (table : TableState) (shapes : List (Option Shape)) (tenants : List Ten
   page_small : page.number < 256
   page_small = let few = few_pages page_located.shape page_located.pages.shaped in let h = page_number in omega arith
 
-  pub is_page_at : IsPageAt table (page_place page)
-  is_page_at = ap length (content_in (contents_of table) (map_place page.tenant page.map) page.number page_small) ∙ page_located.pages.there page.number page_number
+  pub is_page_at : IsPageAt table (page_index_of page)
+  is_page_at = ap length (content_in (contents_of table) (map_index_of page.tenant page.map) page.number page_small) ∙ page_located.pages.there page.number page_number
 
-  pub content_is : slice_index_or (contents_of table) (page_place page) [] ≡ page_bytes (bytes_of_map (view_of table shapes tenants pass) page) page.number
+  pub content_is : slice_index_or (contents_of table) (page_index_of page) [] ≡ page_bytes (bytes_of_map (view_of table shapes tenants pass) page) page.number
   unfolding view_of part
   content_is = grind (arith, nat_tests, content_in, page_small, page_bytes-page, page_number)
 
-  pub state_is : (entry : Entry) → entry_at table.entries (page_place page) ≡ Some entry → state_at (view_of table shapes tenants pass).sharing (page_place page) ≡ Some (state_of entry)
+  pub state_is : (entry : Entry) → entry_at table.entries (page_index_of page) ≡ Some entry → state_at (view_of table shapes tenants pass).sharing (page_index_of page) ≡ Some (state_of entry)
   unfolding view_of
-  state_is entry e = told_here state_of table.entries (page_place page) entry e
+  state_is entry e = reported_here state_of table.entries (page_index_of page) entry e
 
-  pub frame_is : (entry : Entry) → entry_at table.entries (page_place page) ≡ Some entry → frame_at (view_of table shapes tenants pass) (page_place page) ≡ Some entry.frame
+  pub frame_is : (entry : Entry) → entry_at table.entries (page_index_of page) ≡ Some entry → frame_at (view_of table shapes tenants pass) (page_index_of page) ≡ Some entry.frame
   unfolding view_of
-  frame_is entry e = told_here (λ (entry : Entry). entry.frame) table.entries (page_place page) entry e
+  frame_is entry e = reported_here (λ (entry : Entry). entry.frame) table.entries (page_index_of page) entry e

@@ -1,5 +1,5 @@
 -- Frames reserved for open runs, and what the maps of a memory meet.
-use Rattle.page_table.proofs.Base.{◌≡◌, ◌∙◌, ℕ, ◌+◌, ◌-◌, ◌*◌, ◌<◌, ◌≤◌, List, length, sum_by, slice_index_or, slice_set, Option, arith, get_or-set_same, get_or-set_other, sum_by-set, nat_tests, zero, suc, [], ◌∷◌, map, drop, Some, None, IfSome, option_map, is_none, position, refl, All, position_or_len, get_or_past, get_or-take, get_or-drop, concat, length-take-le, All-nil, All-cons, All-head, All-tail, All-append, All-take, All-drop, Shape, Pass, Tenant, MemoryState, part, unreserved_tenant, free_of, have_of, IsKeptBut, TableState, contents_of, maps_of, used_by, view_of, IsMemory, part_of, FlatMap, FlatMaps, map_at, map_place, IsFlatMap, IsPage, page_at, Entry, free_number, flat_of, entry_content, ArePages, ArePagesOf, AreMaps}
+use Rattle.page_table.proofs.Base.{◌≡◌, ◌∙◌, ℕ, ◌+◌, ◌-◌, ◌*◌, ◌<◌, ◌≤◌, List, length, sum_by, slice_index_or, slice_set, Option, arith, get_or-set_same, get_or-set_other, sum_by-set, nat_tests, zero, suc, [], ◌∷◌, map, drop, Some, None, IfSome, option_map, is_none, position, refl, All, position_or_len, get_or_past, get_or-take, get_or-drop, concat, length-take-le, All-nil, All-cons, All-head, All-tail, All-append, All-take, All-drop, Shape, Pass, Tenant, MemoryState, part, unreserved_tenant, free_of, have_of, OtherTenantsUnchanged, TableState, contents_of, maps_of, used_by, view_of, IsMemory, part_of, FlatMap, FlatMaps, map_at, map_index_of, IsFlatMap, IsPage, page_at, Entry, free_number, flat_of, entry_content, ArePages, ArePagesOf, AreMaps}
 use Rattle.std.proofs.Common.{length-set}
 use Rattle.page_table.proofs.Maps.{length-maps_of}
 use Rattle.page_table.proofs.Entries.{free_is}
@@ -7,7 +7,7 @@ pub use Rattle.page_table.proofs.Maps.{length-part}
 use Rattle.page_table.proofs.Maps.{map_at-maps_of, length-maps_of, length-concat}
 use Rattle.page_table.proofs.Reading.{map_at-part}
 
--- two lists that are free at the same places have the same first free place
+-- two lists that are free at the same indices have the same first free entry
 same_prefix : (maps : FlatMaps) (shapes : List (Option Shape)) → length maps ≡ length shapes → ((i : ℕ) → is_none (slice_index_or maps i None) ≡ is_none (slice_index_or shapes i None))
     → position_or_len (λ (slot : Option FlatMap). is_none slot) maps ≡ position_or_len (λ (slot : Option Shape). is_none slot) shapes
 same_prefix [] [] e h = refl
@@ -15,22 +15,22 @@ same_prefix [] (s ∷ shapes) e h = absurd (omega arith)
 same_prefix (m ∷ maps) [] e h = absurd (omega arith)
 same_prefix (m ∷ maps) (s ∷ shapes) e h = grind (arith, h 0, same_prefix maps shapes (omega arith) (λ i. h (suc i)))
 
--- the maps' places are free where no shape is
+-- the maps' indices are free where no shape is
 free_of_maps : (shapes : List (Option Shape)) (contents : List (List ℕ)) (from width : ℕ)
     → position (λ (slot : Option FlatMap). is_none slot) (part_of (maps_of shapes contents) from width) ≡ position (λ (slot : Option Shape). is_none slot) (part_of shapes from width)
 unfolding part_of
 free_of_maps shapes contents from width = grind (arith, nat_tests, same_prefix, length-part, length-maps_of, get_or-take, get_or-drop, map_at-maps_of, get_or_past)
 
--- the first free number of a tenant is the first place of its shapes without one
-pub free_number_told : (table : TableState) (shapes : List (Option Shape)) (tenants : List Tenant) (pass : Pass) (t : ℕ)
+-- the first free number of a tenant is the first index of its shapes without one
+pub free_number_reported : (table : TableState) (shapes : List (Option Shape)) (tenants : List Tenant) (pass : Pass) (t : ℕ)
     → free_number (part (view_of table shapes tenants pass) t) ≡ position (λ (slot : Option Shape). is_none slot) (part_of shapes (t * 8) 8)
 unfolding view_of part
-free_number_told table shapes tenants pass t = free_of_maps shapes (contents_of table) (t * 8) 8
+free_number_reported table shapes tenants pass t = free_of_maps shapes (contents_of table) (t * 8) 8
 
 module _ (table : TableState) (shapes : List (Option Shape)) (tenants : List Tenant) (pass : Pass) (t : ℕ) where
-  pub map_told : (m : ℕ) → m < 8 → map_at (part (view_of table shapes tenants pass) t).maps m ≡ option_map (flat_of (part_of (contents_of table) (map_place t m * 256) 256)) (slice_index_or shapes (map_place t m) None)
+  pub map_reported : (m : ℕ) → m < 8 → map_at (part (view_of table shapes tenants pass) t).maps m ≡ option_map (flat_of (part_of (contents_of table) (map_index_of t m * 256) 256)) (slice_index_or shapes (map_index_of t m) None)
   unfolding view_of part
-  map_told m small = map_at-part (maps_of shapes (contents_of table)) t m small ∙ map_at-maps_of shapes (contents_of table) (map_place t m)
+  map_reported m small = map_at-part (maps_of shapes (contents_of table)) t m small ∙ map_at-maps_of shapes (contents_of table) (map_index_of t m)
 
 -- the bytes of pages
 
@@ -77,7 +77,7 @@ sum-recorded tenants t kept inside = sum_by-set reserve_in tenants t kept unrese
 
 -- a tenant's reserve is one of all
 pub reserve-small : (tenants : List Tenant) (t : ℕ) → t < length tenants → (slice_index_or tenants t unreserved_tenant).reserve ≤ sum_by reserve_in tenants
-reserve-small tenants t inside = let told = sum-recorded tenants t unreserved_tenant inside in omega (arith, told)
+reserve-small tenants t inside = let answer = sum-recorded tenants t unreserved_tenant inside in omega (arith, answer)
 
 module _ (table : TableState) (shapes : List (Option Shape)) (tenants : List Tenant) (pass : Pass) (reserved : ℕ) (is : IsMemory table shapes tenants reserved) where
   abbrev memory : MemoryState
@@ -86,12 +86,12 @@ module _ (table : TableState) (shapes : List (Option Shape)) (tenants : List Ten
   long : length (maps_of shapes (contents_of table)) ≡ length tenants * 8
   long = length-maps_of shapes (contents_of table) ∙ is.numbers
 
-  -- a tenant has eight places for maps
+  -- a tenant has eight entries for maps
   pub eight_maps : (t : ℕ) → t < length memory.tenants → length (part memory t).maps ≡ 8
   unfolding view_of part
   eight_maps t inside = omega (arith, length-part (maps_of shapes (contents_of table)) (t * 8) 8, long, inside)
 
-  -- a tenant with eight places for maps is there
+  -- a tenant with eight entries for maps is there
   pub tenant_there : (t : ℕ) → length (part memory t).maps ≡ 8 → t < length tenants
   unfolding view_of part
   tenant_there t eight = omega (arith, length-part (maps_of shapes (contents_of table)) (t * 8) 8, long, eight)
@@ -110,7 +110,7 @@ module _ (table : TableState) (shapes : List (Option Shape)) (tenants : List Ten
     before = (slice_index_or tenants t unreserved_tenant).reserve
 
     pub before_small : before ≤ reserved
-    before_small = let told = reserve-small tenants t (tenant_there t eight) in omega (arith, told, is.sum)
+    before_small = let answer = reserve-small tenants t (tenant_there t eight) in omega (arith, answer, is.sum)
 
     pub fits : reserved - before + kept.reserve + used_by table ≤ length table.arena
     unfolding view_of part
@@ -130,7 +130,7 @@ pub record Records (old new : MemoryState) (table : TableState) (shapes : List (
   pub small : reserved - before + kept.reserve ≤ 4096
   pub memory : IsMemory table shapes (slice_set tenants t kept) (reserved - before + kept.reserve)
   pub recorded_part : part new t ≡ record (part old t) { reserve = kept.reserve; running = kept.running }
-  pub others : IsKeptBut t old new
+  pub others : OtherTenantsUnchanged t old new
   pub have : have_of new + kept.reserve ≡ have_of old + (part old t).reserve
   pub all : new ≡ record old { tenants = slice_set old.tenants t kept }
 
@@ -139,4 +139,4 @@ pub records : (table : TableState) (shapes : List (Option Shape)) (tenants : Lis
     → length (part now t).maps ≡ 8 → kept.reserve ≤ have_of now + (part now t).reserve → before ≡ (part now t).reserve
     → Records now (view_of table shapes (slice_set tenants t kept) pass) table shapes tenants reserved t before kept
 unfolding view_of part
-records table shapes tenants pass reserved is now same t before kept eight room told = grind (arith, nat_tests, tenant_there table shapes tenants pass reserved is t, before_small table shapes tenants pass reserved is t kept, fits table shapes tenants pass reserved is t kept, sum-recorded, tenant_there, before_small, length-set, fits, get_or-set_same, get_or-set_other, have_recorded table shapes tenants pass reserved is t kept)
+records table shapes tenants pass reserved is now same t before kept eight room answer = grind (arith, nat_tests, tenant_there table shapes tenants pass reserved is t, before_small table shapes tenants pass reserved is t kept, fits table shapes tenants pass reserved is t kept, sum-recorded, tenant_there, before_small, length-set, fits, get_or-set_same, get_or-set_other, have_recorded table shapes tenants pass reserved is t kept)

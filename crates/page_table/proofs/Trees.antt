@@ -36,7 +36,7 @@ module _ (arena : List (List ℕ)) (groups : List ℕ) (tree : Groups) (is : IsT
   pub tree-absent : (f : ℕ) → times f groups ≡ 0 → All (λ g. g ≢ f) (concat tree.chains)
   tree-absent f none = nowhere f (concat tree.chains) (tree-times f ∙ none)
 
--- a number that stands at a place
+-- a number that stands at an index
 stands : (xs : List ℕ) (i d : ℕ) → i < length xs → 1 ≤ times (slice_index_or xs i d) xs
 stands [] i d h = absurd (omega (arith, h))
 stands (x ∷ xs) zero d h = times-head x xs

@@ -1,12 +1,12 @@
--- What a memory tells where the pins of one tenant changed.
-use Rattle.page_table.proofs.Base.{◌≡◌, ◌≢◌, ◌∙◌, ◌⊎◌, ℕ, ◌+◌, ◌*◌, ◌<◌, ◌≤◌, Bool, true, false, List, length, replicate, slice_index_or, Option, refl, sym, ap, arith, length-replicate, length-map, nat_tests, ext_get_or, ordered, ◌-◌, ◌/◌, ◌%◌, if◌then◌else◌, [], ◌∷◌, ◌++◌, take, drop, slice_set, get_or-set_same, get_or-set_other, length-set, take-replicate, drop-replicate, get_or-replicate, take-append_seam, sum_by-cons, sum_by-set, sum_by-replicate, Shape, part_of, with_part, map_place, PinsFit, PageState, length-part_of, length-with_part, with_part-whole, Pass, Tenant, IsKeptBut, with_pins, part, TableState, states_of, view_of, IsMemory, part-with_part_same, with_part-same, pinned_among, ArePinsOf}
+-- What a memory says where the pins of one tenant changed.
+use Rattle.page_table.proofs.Base.{◌≡◌, ◌≢◌, ◌∙◌, ◌⊎◌, ℕ, ◌+◌, ◌*◌, ◌<◌, ◌≤◌, Bool, true, false, List, length, replicate, slice_index_or, Option, refl, sym, ap, arith, length-replicate, length-map, nat_tests, ext_get_or, ordered, ◌-◌, ◌/◌, ◌%◌, if◌then◌else◌, [], ◌∷◌, ◌++◌, take, drop, slice_set, get_or-set_same, get_or-set_other, length-set, take-replicate, drop-replicate, get_or-replicate, take-append_seam, sum_by-cons, sum_by-set, sum_by-replicate, Shape, part_of, with_part, map_index_of, PinsFit, PageState, length-part_of, length-with_part, with_part-whole, Pass, Tenant, OtherTenantsUnchanged, with_pins, part, TableState, states_of, view_of, IsMemory, part-with_part_same, with_part-same, pinned_among, ArePinsOf}
 use Rattle.page_table.proofs.Creating.{length-contents, filled_at, others-filled}
 use Rattle.page_table.proofs.Waiters.{pinned_if}
 use Rattle.page_table.proofs.Maps.{part_of-set_other, part-at, length-part, part_of-set_same}
 
 -- a page that is pinned is one of its tenant
 pub pinned-others : (pins : List Bool) (is_pinned : Bool) (t m n u : ℕ) → m < 8 → n < 256 → u ≢ t
-    → part_of (pinned_if is_pinned (map_place t m * 256 + n) pins) (u * 2048) 2048 ≡ part_of pins (u * 2048) 2048
+    → part_of (pinned_if is_pinned (map_index_of t m * 256 + n) pins) (u * 2048) 2048 ≡ part_of pins (u * 2048) 2048
 pinned-others pins is_pinned t m n u h1 h2 h3 = grind (arith, nat_tests, part_of-set_other pins t (m * 256 + n) u 2048 true)
 
 -- what is no longer pinned of a tenant is so of no other one
@@ -42,7 +42,7 @@ module _ (table : TableState) (shapes : List (Option Shape)) (tenants : List Ten
   unfolding view_of part
   part-unpinned = grind (arith, nat_tests, at, tenant-unpinned pass.pins t 0 2048, pins-inside, with_part-whole, length-replicate 2048 false, length-part_of pass.pins)
 
-  pub others-kept : IsKeptBut t (view_of table shapes tenants pass) (view_of table shapes tenants left)
+  pub others-kept : OtherTenantsUnchanged t (view_of table shapes tenants pass) (view_of table shapes tenants left)
   unfolding view_of part
   others-kept u ne =
       ap (λ (pins : List Bool). with_pins pins (part (view_of table shapes tenants pass) u))
@@ -66,15 +66,15 @@ few-pinned (b ∷ pins) = grind (arith, few-pinned pins, sum_by-cons one_if b pi
 pub none-pinned : (n : ℕ) → pinned_among (replicate n false) ≡ 0
 none-pinned n = sum_by-replicate one_if n false ∙ omega arith
 
--- where none is pinned, the list says so of each place
+-- where none is pinned, the list says so of each index
 pub all-false : (pins : List Bool) → pinned_among pins ≡ 0 → pins ≡ replicate (length pins) false
 all-false [] none = refl
 all-false (true ∷ pins) none = absurd (let split = sum_by-cons one_if true pins in omega (arith, none, split))
 all-false (false ∷ pins) none = let split = sum_by-cons one_if false pins in ap (λ (l : List Bool). false ∷ l) (all-false pins (omega (arith, none, split)))
 
--- what is filled behind a filled part is a longer part
-filled-behind : (pins : List Bool) (at n m : ℕ) → at + n + m ≤ length pins → with_part (with_part pins at (replicate n false)) (at + n) (replicate m false) ≡ with_part pins at (replicate (n + m) false)
-filled-behind pins at n m h1 =
+-- what is filled after a filled part is a longer part
+filled-at_or_before : (pins : List Bool) (at n m : ℕ) → at + n + m ≤ length pins → with_part (with_part pins at (replicate n false)) (at + n) (replicate m false) ≡ with_part pins at (replicate (n + m) false)
+filled-at_or_before pins at n m h1 =
     grind (arith, nat_tests, length-replicate n false, length-replicate m false, length-replicate (n + m) false, length-with_part pins at (replicate n false), length-with_part (with_part pins at (replicate n false)) (at + n) (replicate m false), length-with_part pins at (replicate (n + m) false), ext_get_or false, filled_at (with_part pins at (replicate n false)) (at + n) m, filled_at pins at n, filled_at pins at (n + m))
 
 new-part : (maps k : ℕ) → k < maps → pinned_among (part_of (replicate (maps * 256) false) (k * 256) 256) ≡ 0
@@ -108,11 +108,11 @@ module _ (pins : List Bool) (numbers : List ℕ) (are : ArePinsOf pins numbers) 
     pub pins-more : ArePinsOf (slice_set pins (k * 256 + n) true) (slice_set numbers k (slice_index_or numbers k 0 + 1))
     pins-more = grind (arith, nat_tests, pins-changed, here, length-set, part_of-set_other, long, sum_by-set, was, part_of-set_same)
 
-  -- the same by the page's place
-  pub pins-more-at : (place now : ℕ) → place < length pins → slice_index_or pins place false ≡ false → now ≡ slice_index_or numbers (place / 256) 0 → ArePinsOf (slice_set pins place true) (slice_set numbers (place / 256) (now + 1))
-  pins-more-at place now inside free told =
-      let at : place ≡ place / 256 * 256 + place % 256 = omega arith in
-      grind (arith, pins-more (place / 256) (place % 256), ap (λ (i : ℕ). slice_index_or pins i false) at, ap (λ (i : ℕ). slice_set pins i true) at)
+  -- the same by the page's index
+  pub pins-more-at : (page_index now : ℕ) → page_index < length pins → slice_index_or pins page_index false ≡ false → now ≡ slice_index_or numbers (page_index / 256) 0 → ArePinsOf (slice_set pins page_index true) (slice_set numbers (page_index / 256) (now + 1))
+  pins-more-at page_index now inside free answer =
+      let at : page_index ≡ page_index / 256 * 256 + page_index % 256 = omega arith in
+      grind (arith, pins-more (page_index / 256) (page_index % 256), ap (λ (i : ℕ). slice_index_or pins i false) at, ap (λ (i : ℕ). slice_set pins i true) at)
 
   -- no page of a map is pinned any more
   module _ (k : ℕ) (inside : k < length numbers) where
@@ -132,7 +132,7 @@ module _ (pins : List Bool) (numbers : List ℕ) (are : ArePinsOf pins numbers) 
 -- another map more has no pinned pages
 pub filled-more : (pins : List Bool) (first n : ℕ) → first * 256 + n * 256 + 256 ≤ length pins
     → with_part (with_part pins (first * 256) (replicate (n * 256) false)) ((first + n) * 256) (replicate 256 false) ≡ with_part pins (first * 256) (replicate ((n + 1) * 256) false)
-filled-more pins first n h1 = grind (arith, nat_tests, filled-behind pins (first * 256) (n * 256) 256)
+filled-more pins first n h1 = grind (arith, nat_tests, filled-at_or_before pins (first * 256) (n * 256) 256)
 
 -- a list that was written back whole
 pub written-back : (new old : List Bool) (n : ℕ) → length new ≡ length old → n ≡ length old → take n (new ++ drop (length new) old) ≡ new

@@ -1,9 +1,9 @@
 -- A page table stays sound where a page is taken away that has its own frame, or leaves others on its frame.
 use Rattle.page_table.proofs.Base.{◌≡◌, ℕ, zero, suc, ◌+◌, ◌-◌, ◌<◌, ◌≤◌, ◌==◌, true, false, if◌then◌else◌, length, slice_index_or, slice_set, Some, None, option_map, refl, arith, length-set, map-set, set-set, nat_tests, common_steps, Pass, Sharing, is_shared, broken, gone, gone_from, broken-own, Entry, TableState, CountsState, IsTable, IsGroup, IsOwnAt, IsSound, AreCountsOf, one_if_zero, entry_at, state_of, groups_of, sharing_of, pages_on, used_by}
-use Rattle.page_table.proofs.Entries.{one_when, places_on-set, groups-kept, one_if_zero-above, group_of, counts-set, inside, equal, some_on, is_alone, entry_fits, table-changed, counted-changed, apart_alone, pages_on-changed, own_pages-set, without-here, state-at}
+use Rattle.page_table.proofs.Entries.{one_when, indices_on-set, groups-kept, one_if_zero-above, group_of, counts-set, inside, equal, some_on, is_alone, entry_fits, table-changed, counted-changed, apart_alone, pages_on-changed, own_pages-set, without-here, state-at}
 use Rattle.page_table.proofs.Ending.{groups-left}
 
--- the table without the page at a place
+-- the table without the page at an index
 abbrev pub vacated : TableState → ℕ → TableState
 vacated table i = record table { entries = slice_set table.entries i None }
 
@@ -18,7 +18,7 @@ module _ (table : TableState) (i : ℕ) (entry : Entry) (is : IsTable table) (he
 
   groups-own : is_shared entry.status ≡ false → groups_of (vacated table i) ≡ groups_of table
   unfolding groups_of
-  groups-own own = grind (arith, nat_tests, groups-kept table.entries (vacated table i).entries table.groups, places_on-set, is_alone, entry_fits, here)
+  groups-own own = grind (arith, nat_tests, groups-kept table.entries (vacated table i).entries table.groups, indices_on-set, is_alone, entry_fits, here)
 
   pub sharing-vacated : (pass : Pass) → sharing_of (vacated table i) pass ≡ record (gone (sharing_of table pass) i) { pins = pass.pins }
   unfolding gone broken groups_of

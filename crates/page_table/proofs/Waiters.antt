@@ -1,13 +1,13 @@
 -- The pages that wait: what keeps them, and how many there are.
-use Rattle.page_table.proofs.Base.{◌≡◌, ◌≢◌, ◌∙◌, is_same, ℕ, ◌<◌, ◌≤◌, ◌==◌, ◌||◌, not, false, List, [], ◌∷◌, ◌++◌, length, map, filter, slice_index_or, slice_set, Option, Some, None, refl, ap, arith, list_any, get_or-set_other, nat_tests, ◌&&◌, Bool, true, if◌then◌else◌, option_map, sym, subst, get_or_default, length-map, get_or_past, is_shared, waiting_without, Waiter, Entry, Pass, TableState, AreOwnKept, AreOthersKept, entry_at, own_pages, waiting_of, forgets, is_listed, IsWaiter, AreWaiters, IsPass, Volatile, Waiting, is_pinned, pinned, broken_by, PinsFit, Sharing, state_at, is_shared_page, broken, fit-by, entry_content, contents_of, state_of, states_of, sharing_of}
+use Rattle.page_table.proofs.Base.{◌≡◌, ◌≢◌, ◌∙◌, is_same, ℕ, ◌<◌, ◌≤◌, ◌==◌, ◌||◌, not, false, List, [], ◌∷◌, ◌++◌, length, map, filter, slice_index_or, slice_set, Option, Some, None, refl, ap, arith, list_any, get_or-set_other, nat_tests, ◌&&◌, Bool, true, if◌then◌else◌, option_map, sym, subst, get_or_default, length-map, get_or_past, is_shared, waiting_without, Waiter, Entry, Pass, TableState, AreOwnKept, AreOthersKept, entry_at, own_pages, waiting_of, forgets, is_listed, IsWaiter, AreWaiters, IsPass, Volatile, Waiting, is_pinned, pinned, broken_for_run, PinsFit, Sharing, state_at, is_shared_page, broken, fit-by, entry_content, contents_of, state_of, states_of, sharing_of}
 use Rattle.page_table.proofs.Entries.{inside, own_pages-set, state-at}
 
--- where each page has its bytes, there are as many places
+-- where each page has its bytes, there are as many indices
 pub entries-long : (old new : TableState) → contents_of new ≡ contents_of old → length new.entries ≡ length old.entries
 unfolding contents_of
 entries-long old new e = sym (length-map new.entries (entry_content new.arena)) ∙ ap length e ∙ length-map old.entries (entry_content old.arena)
 
--- a page that is told not to be pinned has a place in the list
+-- a page that is reported not to be pinned has an index in the list
 pub not-pinned : (pins : List Bool) (i : ℕ) → is_pinned pins i ≡ false → slice_index_or pins i false ≡ false
 not-pinned pins i h = grind (arith, get_or_default pins i true false, get_or_past pins i)
 
@@ -32,9 +32,9 @@ abbrev pub pinned_if : Bool → ℕ → List Bool → List Bool
 pinned_if is_pinned i pins = if is_pinned then slice_set pins i true else pins
 
 -- a page that was taken out, and is pinned where its tenant has an open run
-module _ (old new : TableState) (pass : Pass) (i : ℕ) (running pins : Bool) (told : pins ≡ (running && is_shared_page (state_at (sharing_of old pass) i))) (taken : sharing_of new pass ≡ broken (sharing_of old pass) i) where
-  pub sharing-taken : sharing_of new (record pass { pins = pinned_if pins i pass.pins }) ≡ broken_by running (sharing_of old pass) i
-  unfolding broken_by
+module _ (old new : TableState) (pass : Pass) (i : ℕ) (running pins : Bool) (answer : pins ≡ (running && is_shared_page (state_at (sharing_of old pass) i))) (taken : sharing_of new pass ≡ broken (sharing_of old pass) i) where
+  pub sharing-taken : sharing_of new (record pass { pins = pinned_if pins i pass.pins }) ≡ broken_for_run running (sharing_of old pass) i
+  unfolding broken_for_run
   sharing-taken = grind (arith, nat_tests, pinned)
 
   pub pins-taken : PinsFit (states_of old.entries) pass.pins → PinsFit (states_of new.entries) (pinned_if pins i pass.pins)
@@ -50,18 +50,18 @@ waiters-kept old new c d [] h are = tt
 waiters-kept old new c d (w ∷ ws) h are = (h w are.0, are.1, waiters-kept old new c d ws h are.2)
 
 -- a waiting page whose entry stays
-pub waiter-kept : (old new : List (Option Entry)) (c : Option ℕ) (w : Waiter) → ((entry : Entry) → entry_at old w.place ≡ Some entry → is_shared entry.status ≡ false → entry_at new w.place ≡ Some entry) → IsWaiter old c w → IsWaiter new c w
+pub waiter-kept : (old new : List (Option Entry)) (c : Option ℕ) (w : Waiter) → ((entry : Entry) → entry_at old w.page_index ≡ Some entry → is_shared entry.status ≡ false → entry_at new w.page_index ≡ Some entry) → IsWaiter old c w → IsWaiter new c w
 waiter-kept old new c w h is = grind (arith, nat_tests, waiter_own old c w is)
 
--- where no page waits at two places, what happens there keeps all that wait
+-- where no page waits at two indices, what happens there keeps all that wait
 waiters-both : (old new : List (Option Entry)) (c : Option ℕ) (i j : ℕ) (ws : List Waiter) → is_listed i ws ≡ false → is_listed j ws ≡ false
     → ((k : ℕ) → k ≢ i → k ≢ j → entry_at new k ≡ entry_at old k) → AreWaiters old c ws → AreWaiters new c ws
 waiters-both old new c i j [] one other h are = tt
-waiters-both old new c i j (w ∷ ws) one other h are = grind (arith, nat_tests, waiter-kept old new c w, h w.place, waiters-both old new c i j ws)
+waiters-both old new c i j (w ∷ ws) one other h are = grind (arith, nat_tests, waiter-kept old new c w, h w.page_index, waiters-both old new c i j ws)
 
 -- the waiting pages without one
 abbrev pub others_of : ℕ → List Waiter → List Waiter
-others_of i ws = filter (λ w. not (w.place == i)) ws
+others_of i ws = filter (λ w. not (w.page_index == i)) ws
 
 pub listed-others : (i : ℕ) (ws : List Waiter) → is_listed i (others_of i ws) ≡ false
 listed-others i [] = refl
@@ -82,23 +82,23 @@ waiting-forgets i [] = refl
 waiting-forgets i (w ∷ ws) = grind (arith, waiting-forgets i ws)
 
 -- one more page waits
-pub waiters-more : (entries : List (Option Entry)) (c : Option ℕ) (ws : List Waiter) (w : Waiter) → AreWaiters entries c ws → IsWaiter entries c w → is_listed w.place ws ≡ false → AreWaiters entries c (ws ++ w ∷ [])
+pub waiters-more : (entries : List (Option Entry)) (c : Option ℕ) (ws : List Waiter) (w : Waiter) → AreWaiters entries c ws → IsWaiter entries c w → is_listed w.page_index ws ≡ false → AreWaiters entries c (ws ++ w ∷ [])
 waiters-more entries c [] w are is none = (is, refl, tt)
 waiters-more entries c (v ∷ ws) w are is none = grind (arith, nat_tests, last ws, waiters-more entries c ws w are.2 is)
   where
-    last : (ws : List Waiter) → v.place ≢ w.place → is_listed v.place ws ≡ false → is_listed v.place (ws ++ w ∷ []) ≡ false
+    last : (ws : List Waiter) → v.page_index ≢ w.page_index → is_listed v.page_index ws ≡ false → is_listed v.page_index (ws ++ w ∷ []) ≡ false
     last [] h none = grind (arith, nat_tests)
     last (u ∷ us) h none = grind (arith, nat_tests, last us h)
 
 -- as callers see it, too
-pub listed-told : (i : ℕ) (ws : List Waiter) → is_listed i ws ≡ list_any (λ (entry : ℕ × ℕ). entry.0 == i) (map waiting_of ws)
-listed-told i [] = refl
-listed-told i (w ∷ ws) = ap (λ b. (w.place == i) || b) (listed-told i ws)
+pub listed-answer : (i : ℕ) (ws : List Waiter) → is_listed i ws ≡ list_any (λ (entry : ℕ × ℕ). entry.0 == i) (map waiting_of ws)
+listed-answer i [] = refl
+listed-answer i (w ∷ ws) = ap (λ b. (w.page_index == i) || b) (listed-answer i ws)
 
 -- as many pages have frames of their own as wait
 pub waiters-few : (entries : List (Option Entry)) (c : Option ℕ) (ws : List Waiter) → AreWaiters entries c ws → length ws ≤ own_pages entries
 waiters-few entries c [] are = omega arith
-waiters-few entries c (w ∷ ws) are = grind (arith, nat_tests, inside, waiters-both, get_or-set_other, own_pages-set, waiter_own, waiters-few (slice_set entries w.place None) c ws)
+waiters-few entries c (w ∷ ws) are = grind (arith, nat_tests, inside, waiters-both, get_or-set_other, own_pages-set, waiter_own, waiters-few (slice_set entries w.page_index None) c ws)
 
 -- no page waits that wasn't visited in this pass
 pub ahead-free : (entries : List (Option Entry)) (c i : ℕ) (ws : List Waiter) → c < i → AreWaiters entries (Some c) ws → is_listed i ws ≡ false
@@ -109,7 +109,7 @@ ahead-free entries c i (w ∷ ws) h are = grind (arith, nat_tests, ahead-free en
 pub pass-kept : (old new : TableState) (pass : Pass) → IsPass old pass → AreOwnKept old new → length new.arena ≡ length old.arena → length new.entries ≡ length old.entries → IsPass new pass
 pass-kept old new pass is kept arena long =
     record {
-      waiters = waiters-kept old.entries new.entries pass.cursor pass.cursor pass.waiting.listed (λ w waiter. waiter-kept old.entries new.entries pass.cursor w (λ entry e own. kept w.place entry e own) waiter) is.waiters;
+      waiters = waiters-kept old.entries new.entries pass.cursor pass.cursor pass.waiting.listed (λ w waiter. waiter-kept old.entries new.entries pass.cursor w (λ entry e own. kept w.page_index entry e own) waiter) is.waiters;
       room = omega (arith, arena, is.room);
       cursor = is.cursor;
       pins = pins-kept old new pass is.pins long (λ i entry pinned e volatile. kept i entry e (ap is_shared volatile));

@@ -1,5 +1,5 @@
--- What a memory tells after bytes of a page were written.
-use Rattle.page_table.proofs.Base.{◌≡◌, ◌≢◌, ◌∙◌, Bool, ℕ, ◌+◌, ◌*◌, ◌<◌, ◌≤◌, List, [], length, slice_index_or, slice_set, Option, Some, None, IfSome, false, option_map, refl, ap, arith, concat, get_or-set_same, get_or-set_other, get_or_past, length-take-le, nat_tests, common_steps, Pass, Shape, Page, part_of, with_part, FlatMap, map_at, map_place, page_place, byte_len_of, is_shared, length-with_part, Tenant, page_count, MemoryState, part, bytes_of_map, IsPageOf, IsOwn, map_written, part_written, IsKeptBut, AreMapsKeptBut, KeepsSettings, TableState, entry_at, flat_of, ArePages, ArePagesOf, contents_of, groups_of, used_by, view_of, IsMemory, take-with_part, drop-with_part_before}
+-- What a memory gives after bytes of a page were written.
+use Rattle.page_table.proofs.Base.{◌≡◌, ◌≢◌, ◌∙◌, Bool, ℕ, ◌+◌, ◌*◌, ◌<◌, ◌≤◌, List, [], length, slice_index_or, slice_set, Option, Some, None, IfSome, false, option_map, refl, ap, arith, concat, get_or-set_same, get_or-set_other, get_or_past, length-take-le, nat_tests, common_steps, Pass, Shape, Page, part_of, with_part, FlatMap, map_at, map_index_of, page_index_of, byte_len_of, is_shared, length-with_part, Tenant, page_count, MemoryState, part, bytes_of_map, IsPageOf, IsOwn, map_written, part_written, OtherTenantsUnchanged, AreMapsKeptBut, KeepsSettings, TableState, entry_at, flat_of, ArePages, ArePagesOf, contents_of, groups_of, used_by, view_of, IsMemory, take-with_part, drop-with_part_before}
 use Rattle.std.proofs.Common.{length-set}
 use Rattle.page_table.proofs.Maps.{maps_of-changed, length-maps_of, part_of-set_same, part_of-set_other, concat-written, length-concat}
 use Rattle.page_table.proofs.Entries.{state-at}
@@ -10,33 +10,33 @@ pub record OneMap (old new : MemoryState) (t m : ℕ) (flat : Option FlatMap) (p
   pub part_new : part new t ≡ record (part old t) { maps = slice_set (part old t).maps m flat; pins = pins }
   pub there : map_at (part new t).maps m ≡ flat
   pub other_maps : AreMapsKeptBut m (part old t) (part new t)
-  pub others : IsKeptBut t old new
+  pub others : OtherTenantsUnchanged t old new
   pub settings : KeepsSettings old new
 
 -- the pages of one map change, and perhaps its shape
 module _ (table new : TableState) (shapes renewed : List (Option Shape)) (tenants : List Tenant) (reserved t m : ℕ) (is : IsMemory table shapes tenants reserved)
-    (small : m < 8) (inside : map_place t m < length shapes) (long : length renewed ≡ length shapes) (wide : length (contents_of new) ≡ length (contents_of table))
-    (other_shapes : (j : ℕ) → j ≢ map_place t m → slice_index_or renewed j None ≡ slice_index_or shapes j None)
-    (other_pages : (j : ℕ) → j ≢ map_place t m → part_of (contents_of new) (j * 256) 256 ≡ part_of (contents_of table) (j * 256) 256)
+    (small : m < 8) (inside : map_index_of t m < length shapes) (long : length renewed ≡ length shapes) (wide : length (contents_of new) ≡ length (contents_of table))
+    (other_shapes : (j : ℕ) → j ≢ map_index_of t m → slice_index_or renewed j None ≡ slice_index_or shapes j None)
+    (other_pages : (j : ℕ) → j ≢ map_index_of t m → part_of (contents_of new) (j * 256) 256 ≡ part_of (contents_of table) (j * 256) 256)
     (arena : length new.arena ≡ length table.arena) where
-  pub memory_changed : reserved + used_by new ≤ length table.arena → ArePages (slice_index_or renewed (map_place t m) None) (part_of (contents_of new) (map_place t m * 256) 256)
+  pub memory_changed : reserved + used_by new ≤ length table.arena → ArePages (slice_index_or renewed (map_index_of t m) None) (part_of (contents_of new) (map_index_of t m * 256) 256)
       → IsMemory new renewed tenants reserved
   memory_changed room right = grind (arith, nat_tests, wide)
 
   pub one_map : (pass now : Pass) (flat : Option FlatMap) (pins : List Bool)
-      → option_map (flat_of (part_of (contents_of new) (map_place t m * 256) 256)) (slice_index_or renewed (map_place t m) None) ≡ flat
+      → option_map (flat_of (part_of (contents_of new) (map_index_of t m * 256) 256)) (slice_index_or renewed (map_index_of t m) None) ≡ flat
       → part_of now.pins (t * 2048) 2048 ≡ pins → ((u : ℕ) → u ≢ t → part_of now.pins (u * 2048) 2048 ≡ part_of pass.pins (u * 2048) 2048)
       → OneMap (view_of table shapes tenants pass) (view_of new renewed tenants now) t m flat pins
   unfolding view_of part
   one_map pass now flat pins here own others =
-      grind (arith, nat_tests, maps_of-changed shapes renewed (contents_of table) (contents_of new) (map_place t m) flat, part_of-set_same, get_or-set_other, part_of-set_other, get_or-set_same, length-maps_of, map_at-part)
+      grind (arith, nat_tests, maps_of-changed shapes renewed (contents_of table) (contents_of new) (map_index_of t m) flat, part_of-set_same, get_or-set_other, part_of-set_other, get_or-set_same, length-maps_of, map_at-part)
 
 -- bytes of a page were written, and nothing else has changed
 pub record Writes (old new : MemoryState) (page : Page) (at : ℕ) (bytes : List ℕ) : Type 0 where
   pub written : part new page.tenant ≡ part_written (part old page.tenant) page.map (page.number * 4096 + at) bytes
   pub bytes_new : bytes_of_map new page ≡ with_part (bytes_of_map old page) (page.number * 4096 + at) bytes
   pub other_maps : AreMapsKeptBut page.map (part old page.tenant) (part new page.tenant)
-  pub others : IsKeptBut page.tenant old new
+  pub others : OtherTenantsUnchanged page.tenant old new
   pub sharing : new.sharing ≡ old.sharing
   pub frames : new.frames ≡ old.frames
   pub settings : KeepsSettings old new
@@ -60,10 +60,10 @@ module _ (shape : Shape) (pages : List (List ℕ)) (n at : ℕ) (bytes : List �
       grind (arith, nat_tests, there, get_or-set_other, written, joined, drop-with_part_before, whole, get_or_past, length-with_part, get_or-set_same)
 
 module _ (table new : TableState) (shapes : List (Option Shape)) (tenants : List Tenant) (pass : Pass) (reserved : ℕ) (page : Page) (at : ℕ) (bytes : List ℕ) (is : IsMemory table shapes tenants reserved) (there : IsPageOf (view_of table shapes tenants pass) page) (in_page : at + length bytes ≤ 4096) (in_map : page.number * 4096 + at + length bytes ≤ length (bytes_of_map (view_of table shapes tenants pass) page))
-    (contents : contents_of new ≡ slice_set (contents_of table) (page_place page) (with_part (slice_index_or (contents_of table) (page_place page) []) at bytes))
+    (contents : contents_of new ≡ slice_set (contents_of table) (page_index_of page) (with_part (slice_index_or (contents_of table) (page_index_of page) []) at bytes))
     (entries : new.entries ≡ table.entries) (groups : new.groups ≡ table.groups) (arena : length new.arena ≡ length table.arena) where
   abbrev k : ℕ
-  k = map_place page.tenant page.map
+  k = map_index_of page.tenant page.map
 
   abbrev old_pages : List (List ℕ)
   old_pages = part_of (contents_of table) (k * 256) 256
@@ -94,7 +94,7 @@ module _ (table new : TableState) (shapes : List (Option Shape)) (tenants : List
   flat_new = map_written (page.number * 4096 + at) bytes (flat_of old_pages loc.shape)
 
   wide : length (contents_of new) ≡ length (contents_of table)
-  wide = ap length contents ∙ length-set (contents_of table) (page_place page) (with_part (slice_index_or (contents_of table) (page_place page) []) at bytes)
+  wide = ap length contents ∙ length-set (contents_of table) (page_index_of page) (with_part (slice_index_or (contents_of table) (page_index_of page) []) at bytes)
 
   pub memory_written : IsMemory new shapes tenants reserved
   memory_written = grind (arith, nat_tests, pages_written, old_pages, memory_changed, wide, others_new, pages_new, number, in_bytes)
@@ -114,6 +114,6 @@ module _ (table new : TableState) (shapes : List (Option Shape)) (tenants : List
   writes = grind (arith, nat_tests, one, loc)
 
 pub own_entry : (table : TableState) (shapes : List (Option Shape)) (tenants : List Tenant) (pass : Pass) (page : Page) → IsOwn (view_of table shapes tenants pass) page
-    → IfSome (entry_at table.entries (page_place page)) (λ entry. is_shared entry.status ≡ false)
+    → IfSome (entry_at table.entries (page_index_of page)) (λ entry. is_shared entry.status ≡ false)
 unfolding view_of
-own_entry table shapes tenants pass page own = grind (arith, nat_tests, state-at table pass (page_place page))
+own_entry table shapes tenants pass page own = grind (arith, nat_tests, state-at table pass (page_index_of page))

@@ -8,7 +8,7 @@ use Rattle.host_types.specs.declared.shape.Shape.{Shape}
 use Rattle.host_types.specs.Bytes.{with_part}
 use Rattle.host_types.specs.Memory.{FlatMap, map_at}
 use Rattle.host_types.specs.OptionTable.{AreOptions}
-use Rattle.host_types.specs.Pages.{page_place}
+use Rattle.host_types.specs.Pages.{page_index_of}
 use Rattle.host_types.specs.Pins.{is_pinned, released}
 use Rattle.host_types.specs.Shapes.{IsShape, byte_len_of}
 use Rattle.host_types.specs.Sharing.{Sharing, state_at, new_page, is_shared}
@@ -21,7 +21,7 @@ use Rattle.page_table.specs.State.{MemoryState, unreserved_tenant, tenant_at, pa
 abbrev pub zero_map : Shape → FlatMap
 zero_map shape = record { shape = shape; bytes = replicate (byte_len_of shape) 0 }
 
--- a map with bytes written from a place on
+-- a map with bytes written from an index on
 abbrev pub map_written : ℕ → List ℕ → FlatMap → FlatMap
 map_written at bytes flat = record flat { bytes = with_part flat.bytes at bytes }
 
@@ -69,8 +69,8 @@ ended memory tenant =
     record memory { tenants = slice_set memory.tenants tenant unreserved_tenant; sharing = released memory.sharing tenant }
 
 -- every other tenant's part stays
-abbrev pub IsKeptBut : ℕ → MemoryState → MemoryState → Type 0
-IsKeptBut tenant old new = (t : ℕ) → t ≢ tenant → part new t ≡ part old t
+abbrev pub OtherTenantsUnchanged : ℕ → MemoryState → MemoryState → Type 0
+OtherTenantsUnchanged tenant old new = (t : ℕ) → t ≢ tenant → part new t ≡ part old t
 
 -- every tenant's part stays
 abbrev pub AreKept : MemoryState → MemoryState → Type 0
@@ -91,27 +91,27 @@ IsPageOf memory page = page.number * 4096 < length (bytes_of_map memory page)
 
 -- the page has a frame of its own
 abbrev pub IsOwn : MemoryState → Page → Type 0
-IsOwn memory page = IfSome (state_at memory.sharing (page_place page)) (λ state. is_shared state.status ≡ false)
+IsOwn memory page = IfSome (state_at memory.sharing (page_index_of page)) (λ state. is_shared state.status ≡ false)
 
 -- the page is mergeable, and has a frame of its own; it may be pinned
 abbrev pub MayChange : MemoryState → Page → Type 0
 MayChange memory page =
-    IfSome (state_at memory.sharing (page_place page)) (λ state. (state.mergeable ≡ true) × (is_shared state.status ≡ false))
+    IfSome (state_at memory.sharing (page_index_of page)) (λ state. (state.mergeable ≡ true) × (is_shared state.status ≡ false))
 
 -- the page may be merged, has a frame of its own, and isn't pinned
 abbrev pub MayMerge : MemoryState → Page → Type 0
-MayMerge memory page = MayChange memory page × (is_pinned memory.sharing.pins (page_place page) ≡ false)
+MayMerge memory page = MayChange memory page × (is_pinned memory.sharing.pins (page_index_of page) ≡ false)
 
 -- the page is not on the waiting list
 abbrev pub IsNotWaiting : MemoryState → Page → Type 0
-IsNotWaiting memory page = is_waiting memory.sharing (page_place page) ≡ false
+IsNotWaiting memory page = is_waiting memory.sharing (page_index_of page) ≡ false
 
 -- the page had this fingerprint at its last visit
 abbrev pub HadFingerprint : MemoryState → Page → ℕ → Type 0
 HadFingerprint memory page fingerprint =
-    IfSome (state_at memory.sharing (page_place page)) (λ state. state.last ≡ Some fingerprint)
+    IfSome (state_at memory.sharing (page_index_of page)) (λ state. state.last ≡ Some fingerprint)
 
--- the bytes of the page at each place
+-- the bytes of the page at each index
 abbrev pub contents_now : MemoryState → Contents
 contents_now memory = contents_in memory.maps
 
@@ -119,22 +119,22 @@ contents_now memory = contents_in memory.maps
 abbrev pub frame_of_group : MemoryState → Option (List ℕ) → Option ℕ
 frame_of_group memory None = None
 frame_of_group memory (Some []) = None
-frame_of_group memory (Some (i ∷ places)) = frame_at memory i
+frame_of_group memory (Some (i ∷ page_indices)) = frame_at memory i
 
 -- the frame of the earliest group that is open to a page
 abbrev pub open_frame : MemoryState → ℕ → Option ℕ
 open_frame memory i =
     frame_of_group memory (find (is_open (contents_now memory) memory.sharing (contents_now memory i)) memory.sharing.groups)
 
--- the earliest page that waits for the page's bytes, by its place
-abbrev pub partner_place : MemoryState → ℕ → ℕ → Option ℕ
-partner_place memory i fingerprint =
+-- the earliest page that waits for the page's bytes, by its index
+abbrev pub partner_index : MemoryState → ℕ → ℕ → Option ℕ
+partner_index memory i fingerprint =
     option_map (λ (entry : ℕ × ℕ). entry.0) (find_partner (contents_now memory) memory.sharing i fingerprint)
 
 -- the pages of a new map, which were never visited
 unfoldable pub with_new_pages : Sharing → ℕ → ℕ → Bool → Sharing
-with_new_pages sharing place count mergeable =
-    record sharing { pages = with_part sharing.pages place (replicate count (Some (new_page mergeable))) }
+with_new_pages sharing page_index count mergeable =
+    record sharing { pages = with_part sharing.pages page_index (replicate count (Some (new_page mergeable))) }
 
 -- what has to hold for a new map: the tenant has a free number, the shape is within the limits, and there are frames
 pub record FitsMap (memory : MemoryState) (tenant : ℕ) (shape : Shape) : Type 0 where

@@ -6,7 +6,7 @@ use Rattle.host_types.specs.Bytes.{part_of}
 abbrev pub pinned_among : List Bool → ℕ
 pinned_among pins = sum_by (λ pin. if pin then 1 else 0) pins
 
--- the numbers are those of the maps' pinned pages, by the maps' places; each map has 256 pages
+-- the numbers are those of the maps' pinned pages, by the maps' indices; each map has 256 pages
 pub record ArePinsOf (pins : List Bool) (numbers : List ℕ) : Type 0 where
   pub maps : length pins ≡ length numbers * 256
   pub each : (k : ℕ) → k < length numbers → slice_index_or numbers k 0 ≡ pinned_among (part_of pins (k * 256) 256)

@@ -9,8 +9,8 @@ use Rattle.host_types.specs.Tenant.{TenantPart}
 use Rattle.host_types.specs.Pages.{zero_page}
 use Rattle.page_table.specs.declared.tenant.Tenant.{Tenant}
 
--- What is recorded of each tenant beside its maps; the maps of all tenants by place; which pages
--- share frames; the page in each frame; and the frame of each page by place.
+-- What is recorded of each tenant beside its maps; the maps of all tenants by index; which pages
+-- share frames; the page in each frame; and the frame of each page by index.
 pub record MemoryState : Type 0 where
   pub tenants : List Tenant
   pub maps : FlatMaps
@@ -24,8 +24,8 @@ unreserved_tenant = record { reserve = 0; running = false }
 
 -- the state of sharing without pages
 abbrev pub no_sharing : ℕ → Options → Sharing
-no_sharing places options =
-    record { pages = replicate places None; groups = []; waiting = []; cursor = None; options = options; full_scans = 0; pins = replicate places false }
+no_sharing page_indices options =
+    record { pages = replicate page_indices None; groups = []; waiting = []; cursor = None; options = options; full_scans = 0; pins = replicate page_indices false }
 
 -- a memory without maps: each tenant has eight map numbers, each map 256 pages
 unfoldable pub new_memory : ℕ → ℕ → Options → MemoryState
@@ -64,7 +64,7 @@ bytes_of_map memory page = map_bytes (part memory page.tenant) page.map
 abbrev pub free_number : TenantPart → Option ℕ
 free_number owned = position (λ (slot : Option FlatMap). is_none slot) owned.maps
 
--- the frame of the page at a place
+-- the frame of the page at an index
 abbrev pub frame_at : MemoryState → ℕ → Option ℕ
 frame_at memory i = slice_index_or memory.frames i None
 

@@ -1,4 +1,4 @@
--- What a page table reads as: the page and status at each place, and which places lie on one frame.
+-- What a page table reads as: the page and status at each index, and which indices lie on one frame.
 use Rattle.std.specs.Prelude.{◌≡◌, ◌≢◌, ◌⊎◌, ℕ, zero, suc, ◌+◌, ◌-◌, ◌*◌, ◌<◌, ◌≤◌, ◌==◌, ◌&&◌, nat_lt, not, bytes_eq, Bool, false, if◌then◌else◌, List, [], ◌∷◌, length, map, filter, take, drop, replicate, sum_by, slice_index_or, Option, None, Some, option_map, unwrap_or, IfSome}
 use Rattle.std.specs.List.{concat}
 use Rattle.host_types.specs.declared.shape.Shape.{Shape}
@@ -44,11 +44,11 @@ abbrev pub groups_in : List ℕ → List ℕ
 groups_in slots = filter (λ f. not (f == 0)) slots
 
 -- the slot of each group is noted by its frame
-pub record ArePlaced (slots slot_of : List ℕ) : Type 0 where
+pub record AreNumbered (slots slot_of : List ℕ) : Type 0 where
   pub below : (i : ℕ) → i < length slots → slice_index_or slots i 0 < length slot_of
-  pub placed : (i : ℕ) → i < length slots → 0 < slice_index_or slots i 0 → slice_index_or slot_of (slice_index_or slots i 0) 0 ≡ i
+  pub numbered : (i : ℕ) → i < length slots → 0 < slice_index_or slots i 0 → slice_index_or slot_of (slice_index_or slots i 0) 0 ≡ i
 
--- The frames' pages, the entries by place, and the frames of the groups in order of creation.
+-- The frames' pages, the entries by index, and the frames of the groups in order of creation.
 pub record TableState : Type 0 where
   pub arena : List (List ℕ)
   pub entries : List (Option Entry)
@@ -72,7 +72,7 @@ abbrev pub entry_content : List (List ℕ) → Option Entry → List ℕ
 entry_content arena None = []
 entry_content arena (Some entry) = page_at arena entry.frame
 
--- the bytes of the page at each place
+-- the bytes of the page at each index
 unfoldable pub contents_of : TableState → List (List ℕ)
 contents_of table = map (entry_content table.arena) table.entries
 
@@ -85,14 +85,14 @@ abbrev pub is_on : ℕ → Option Entry → Bool
 is_on f None = false
 is_on f (Some entry) = entry.frame == f
 
--- the places, from n on, of the pages on a frame
-unfoldable pub places_on : ℕ → ℕ → List (Option Entry) → List ℕ
-places_on n f [] = []
-places_on n f (entry ∷ entries) = if is_on f entry then n ∷ places_on (n + 1) f entries else places_on (n + 1) f entries
+-- the indices, from n on, of the pages on a frame
+unfoldable pub indices_on : ℕ → ℕ → List (Option Entry) → List ℕ
+indices_on n f [] = []
+indices_on n f (entry ∷ entries) = if is_on f entry then n ∷ indices_on (n + 1) f entries else indices_on (n + 1) f entries
 
--- the groups as lists of places
+-- the groups as lists of indices
 unfoldable pub groups_of : TableState → List (List ℕ)
-groups_of table = map (λ f. places_on 0 f table.entries) table.groups
+groups_of table = map (λ f. indices_on 0 f table.entries) table.groups
 
 -- how many pages lie on a frame
 unfoldable pub pages_on : ℕ → List (Option Entry) → ℕ
@@ -164,12 +164,12 @@ pub record IsTreeOf (arena : List (List ℕ)) (groups : List ℕ) (tree : Groups
 abbrev pub flat_of : List (List ℕ) → Shape → FlatMap
 flat_of pages shape = record { shape = shape; bytes = take (byte_len_of shape) (concat pages) }
 
--- the maps of these shapes by place, out of the contents of all places
+-- the maps of these shapes by index, out of the contents of all indices
 unfoldable pub maps_of : List (Option Shape) → List (List ℕ) → FlatMaps
 maps_of [] contents = []
 maps_of (shape ∷ shapes) contents = option_map (flat_of (take 256 contents)) shape ∷ maps_of shapes (drop 256 contents)
 
--- a map's pages are there and no others, and behind the map's bytes they are zero
+-- a map's pages are there and no others, and after the map's bytes they are zero
 pub record ArePagesOf (shape : Shape) (pages : List (List ℕ)) : Type 0 where
   pub shaped : IsShape shape
   pub there : (n : ℕ) → n < page_count shape → length (slice_index_or pages n []) ≡ 4096
@@ -183,33 +183,33 @@ ArePages (Some shape) pages = ArePagesOf shape pages
 
 -- the pages of each map are right
 pub record AreMaps (shapes : List (Option Shape)) (contents : List (List ℕ)) : Type 0 where
-  pub places : length contents ≡ length shapes * 256
+  pub page_indices : length contents ≡ length shapes * 256
   pub each : (k : ℕ) → k < length shapes → ArePages (slice_index_or shapes k None) (part_of contents (k * 256) 256)
 
 -- the start of the first pass, with room for so many waiting pages
 abbrev pub new_pass : ℕ → ℕ → Options → Pass
-new_pass room places options =
-    record { options = options; cursor = None; full_scans = 0; waiting = record { listed = []; room = room }; pins = replicate places false }
+new_pass room page_indices options =
+    record { options = options; cursor = None; full_scans = 0; waiting = record { listed = []; room = room }; pins = replicate page_indices false }
 
 -- a waiting page, as callers see it
 abbrev pub waiting_of : Waiter → ℕ × ℕ
-waiting_of waiter = (waiter.place, waiter.fingerprint)
+waiting_of waiter = (waiter.page_index, waiter.fingerprint)
 
 -- the pass without a waiting page
 abbrev pub forgets : ℕ → Pass → Pass
-forgets i pass = record pass { waiting = record pass.waiting { listed = filter (λ w. not (w.place == i)) pass.waiting.listed } }
+forgets i pass = record pass { waiting = record pass.waiting { listed = filter (λ w. not (w.page_index == i)) pass.waiting.listed } }
 
--- what a table and a pass tell of the pages that share frames
+-- what a table and a pass say of the pages that share frames
 abbrev pub sharing_of : TableState → Pass → Sharing
 sharing_of table pass =
     record { pages = states_of table.entries; groups = groups_of table; waiting = map waiting_of pass.waiting.listed; cursor = pass.cursor; options = pass.options; full_scans = pass.full_scans; pins = pass.pins }
 
--- how many frames the break of a page takes, told by the pages that lie on its frame
+-- how many frames the break of a page takes, reported by the pages that lie on its frame
 unfoldable pub break_frames : TableState → ℕ → ℕ
 break_frames table i =
     unwrap_or (option_map (λ (entry : Entry). cost_of (nat_lt 1 (pages_on entry.frame table.entries)) entry.status) (entry_at table.entries i)) 0
 
--- the page at a place has a frame of its own
+-- the page at an index has a frame of its own
 abbrev pub IsOwnAt : TableState → ℕ → Type 0
 IsOwnAt table i = IfSome (entry_at table.entries i) (λ entry. is_shared entry.status ≡ false)
 
@@ -218,22 +218,22 @@ abbrev pub AreOwnKept : TableState → TableState → Type 0
 AreOwnKept old new =
     (i : ℕ) (entry : Entry) → entry_at old.entries i ≡ Some entry → is_shared entry.status ≡ false → entry_at new.entries i ≡ Some entry
 
--- every page with a frame of its own stays as it is, but for those at n places from a place on
+-- every page with a frame of its own stays as it is, but for those at n indices from an index on
 abbrev pub AreOwnKeptOutside : ℕ → ℕ → TableState → TableState → Type 0
-AreOwnKeptOutside place n old new =
-    (i : ℕ) (entry : Entry) → (i < place) ⊎ (place + n ≤ i) → entry_at old.entries i ≡ Some entry → is_shared entry.status ≡ false → entry_at new.entries i ≡ Some entry
+AreOwnKeptOutside page_index n old new =
+    (i : ℕ) (entry : Entry) → (i < page_index) ⊎ (page_index + n ≤ i) → entry_at old.entries i ≡ Some entry → is_shared entry.status ≡ false → entry_at new.entries i ≡ Some entry
 
--- every page but the one at a place stays as it is
+-- every page but the one at an index stays as it is
 abbrev pub AreOthersKept : ℕ → TableState → TableState → Type 0
-AreOthersKept place old new = (i : ℕ) → i ≢ place → entry_at new.entries i ≡ entry_at old.entries i
+AreOthersKept page_index old new = (i : ℕ) → i ≢ page_index → entry_at new.entries i ≡ entry_at old.entries i
 
 -- the frame of a group has these bytes, and fewer pages lie on it than the limit
 abbrev pub is_open_frame : TableState → List ℕ → ℕ → ℕ → Bool
 is_open_frame table bytes limit f = bytes_eq (page_at table.arena f) bytes && nat_lt (pages_on f table.entries) limit
 
--- a page of a group, at whose place another page joins the group of the frame
+-- a page of a group, at whose index another page joins the group of the frame
 abbrev pub joined_on : TableState → ℕ → ℕ → ℕ → List ℕ
-joined_on table i f g = if g == f then joined_by i (places_on 0 g table.entries) else places_on 0 g table.entries
+joined_on table i f g = if g == f then joined_by i (indices_on 0 g table.entries) else indices_on 0 g table.entries
 
 -- a page with another status and fingerprint
 abbrev pub marked : Status → ℕ → PageState → PageState

@@ -33,30 +33,30 @@ pub record IsMemory (table : TableState) (shapes : List (Option Shape)) (tenants
   pub sum : reserved ≡ sum_by (λ (tenant : Tenant). tenant.reserve) tenants
   pub room : reserved + used_by table ≤ length table.arena
 
--- a page waits at the place
+-- a page waits at the index
 abbrev pub is_listed : ℕ → List Waiter → Bool
-is_listed i waiters = list_any (λ w. w.place == i) waiters
+is_listed i waiters = list_any (λ w. w.page_index == i) waiters
 
--- the page at a place was visited in this pass
-abbrev pub is_behind : Option ℕ → ℕ → Bool
-is_behind None i = true
-is_behind (Some c) i = nat_le i c
+-- the page at an index was visited in this pass
+abbrev pub is_at_or_before : Option ℕ → ℕ → Bool
+is_at_or_before None i = true
+is_at_or_before (Some c) i = nat_le i c
 
--- a waiting page has a frame of its own, is told to wait, and was visited in this pass
+-- a waiting page has a frame of its own, is reported to wait, and was visited in this pass
 pub record IsWaiter (entries : List (Option Entry)) (cursor : Option ℕ) (w : Waiter) : Type 0 where
   pub entry : Entry
-  pub here : entry_at entries w.place ≡ Some entry
+  pub here : entry_at entries w.page_index ≡ Some entry
   pub frame : entry.frame ≡ w.frame
   pub status : entry.status ≡ Waiting
   pub mergeable : entry.mergeable ≡ true
-  pub behind : is_behind cursor w.place ≡ true
+  pub at_or_before : is_at_or_before cursor w.page_index ≡ true
 
--- pages that wait, each at a place of its own
+-- pages that wait, each at its own index
 abbrev pub AreWaiters : List (Option Entry) → Option ℕ → List Waiter → Type 0
 AreWaiters entries cursor [] = ⊤
-AreWaiters entries cursor (w ∷ ws) = IsWaiter entries cursor w × (is_listed w.place ws ≡ false) × AreWaiters entries cursor ws
+AreWaiters entries cursor (w ∷ ws) = IsWaiter entries cursor w × (is_listed w.page_index ws ≡ false) × AreWaiters entries cursor ws
 
--- unless a pass begins, a page behind the cursor may be merged
+-- unless a pass begins, a page after the cursor may be merged
 abbrev pub IsAhead : List (Option PageState) → Option ℕ → Type 0
 IsAhead pages None = ⊤
 IsAhead pages (Some c) =
@@ -69,6 +69,6 @@ pub record IsPass (table : TableState) (pass : Pass) : Type 0 where
   pub cursor : IfSome pass.cursor (λ c. c < 32768)
   pub pins : PinsFit (states_of table.entries) pass.pins
 
--- a page is pinned only while its tenant has a run open; each tenant has 2048 places for pages
+-- a page is pinned only while its tenant has a run open; each tenant has 2048 indices for pages
 pub record OnlyRunsPin (tenants : List Tenant) (pins : List Bool) : Type 0 where
   pub runs : (i : ℕ) → slice_index_or pins i false ≡ true → (slice_index_or tenants (i / 2048) unreserved_tenant).running ≡ true

@@ -8,7 +8,7 @@ use crate::memory::Memory;
 
 impl Memory {
     /// How many groups there are.
-    #[tactic(auto, using(crate::proofs::Counting::groups_told), unfolding(crate::specs::View::view_of))]
+    #[tactic(auto, using(crate::proofs::Counting::groups_reported), unfolding(crate::specs::View::view_of))]
     pub fn groups(&self) -> u32
         ensures { result ≡ length self.now.sharing.groups }
     {
@@ -40,7 +40,7 @@ impl Memory {
     }
 
     /// How many contents have two groups or more. The number is kept, and no group is looked at.
-    #[tactic(auto, using(std::proofs::lemmas::Bool::Decides::nat_tests, crate::proofs::Counting::contents_told))]
+    #[tactic(auto, using(std::proofs::lemmas::Bool::Decides::nat_tests, crate::proofs::Counting::contents_reported))]
     pub fn node_chains(&self) -> u32
         ensures { result ≡ stable_node_chains (contents_now self.now) self.now.sharing }
     {
@@ -49,7 +49,7 @@ impl Memory {
     }
 
     /// How many groups such contents have. The number is kept, and no group is looked at.
-    #[tactic(auto, using(std::proofs::lemmas::Bool::Decides::nat_tests, crate::proofs::Counting::contents_told))]
+    #[tactic(auto, using(std::proofs::lemmas::Bool::Decides::nat_tests, crate::proofs::Counting::contents_reported))]
     pub fn node_dups(&self) -> u32
         ensures { result ≡ stable_node_dups (contents_now self.now) self.now.sharing }
     {

@@ -2,9 +2,9 @@ ghost use Rattle.std.specs.Prelude.{◌≡◌, ◌≢◌, ◌+◌, ◌*◌, ◌-
 ghost use Rattle.host_types.specs.Bytes.{part_of, with_part};
 ghost use Rattle.host_types.specs.Memory.{FlatMap, map_at};
 ghost use Rattle.host_types.specs.OptionTable.{AreOptions, MayBe};
-ghost use Rattle.host_types.specs.Pages.{map_place, page_place, page_bytes, zero_page};
+ghost use Rattle.host_types.specs.Pages.{map_index_of, page_index_of, page_bytes, zero_page};
 ghost use Rattle.host_types.specs.Shapes.{IsShape};
-ghost use Rattle.host_types.specs.Pins.{broken_by, is_pinned, released, unpinned_from};
+ghost use Rattle.host_types.specs.Pins.{broken_for_run, is_pinned, released, unpinned_from};
 ghost use Rattle.host_types.specs.Sharing.{new_page, state_at, is_shared, is_shared_page, break_cost, cost_from, paired, zeroed};
 ghost use Rattle.host_types.specs.Tenant.{IsFlatMap, AreFlatMaps, part_dropped};
 ghost use Rattle.host_types.specs.Unmerging.{with_option, MaySet, unmerged, unmerge_need, SharesNothing};
@@ -13,7 +13,7 @@ ghost use Rattle.frame_arena.specs.Pages.{page_at};
 ghost use Rattle.page_table.specs.Limits.{AreLimits, page_count, shape_of};
 ghost use Rattle.page_table.specs.State.{MemoryState, part, map_bytes, bytes_of_map, free_number, new_memory, unreserved_tenant, free_of, have_of, frame_at};
 ghost use Rattle.page_table.specs.Reads.{ReadsAs};
-ghost use Rattle.page_table.specs.Changes.{IsNotWaiting, HadFingerprint, contents_now, open_frame, partner_place, zero_map, part_written, part_created, AreKept, MayChange, MayMerge, IsKeptBut, AreMapsKeptBut, KeepsSettings, with_pins, with_reserve, with_run, without_run, with_record, opened, ended, IsPageOf, IsOwn, with_new_pages, pages_of_map, FitsMap, RefusesMap, RefusesDrop, RefusesMemory};
+ghost use Rattle.page_table.specs.Changes.{IsNotWaiting, HadFingerprint, contents_now, open_frame, partner_index, zero_map, part_written, part_created, AreKept, MayChange, MayMerge, OtherTenantsUnchanged, AreMapsKeptBut, KeepsSettings, with_pins, with_reserve, with_run, without_run, with_record, opened, ended, IsPageOf, IsOwn, with_new_pages, pages_of_map, FitsMap, RefusesMap, RefusesDrop, RefusesMemory};
 ghost use Rattle.page_table.specs.declared.entry.Entry.{Entry};
 ghost use Rattle.page_table.specs.Table.{state_of, states_of, contents_of, groups_of, used_by, entry_at};
 
@@ -37,7 +37,7 @@ const UNMERGED: u32 = 2;
 #[derive(Drop)]
 pub struct Memory {
     pub(crate) table: Table,
-    /// By the maps' places.
+    /// By the maps' indices.
     shapes: Vec<Option<Shape>>,
     pub(crate) tenants: Vec<Tenant>,
     /// The sum of the tenants' reserves.
@@ -78,33 +78,33 @@ pub(crate) fn pages(shape: &Shape) -> u32
     shape.byte_len().div_ceil(PAGE_SIZE)
 }
 
-/// The place of a tenant's map among all maps.
+/// The index of a tenant's map among all maps.
 pub(crate) fn map_index(tenant: u32, map: MapNo) -> usize
     requires tenant { tenant < 4294967296 }
     requires map { map < 4294967296 }
-    ensures { result ≡ map_place tenant map }
+    ensures { result ≡ map_index_of tenant map }
 {
     tenant as usize * MAX_MAPS + map as usize
 }
 
-/// The page at a place.
-fn page_at(place: usize) -> Page
-    requires { place < 32768 }
-    ensures place { page_place result ≡ place }
+/// The page at an index.
+fn page_at(page_index: usize) -> Page
+    requires { page_index < 32768 }
+    ensures page_index { page_index_of result ≡ page_index }
     ensures map { result.map < 8 }
     ensures number { result.number < 256 }
 {
-    let index = place / MAX_PAGES;
+    let index = page_index / MAX_PAGES;
     Page {
         tenant: (index / MAX_MAPS) as u32,
         map: (index % MAX_MAPS) as MapNo,
-        number: (place % MAX_PAGES) as u32,
+        number: (page_index % MAX_PAGES) as u32,
     }
 }
 
-/// The place of a page among all pages.
-fn place_of(page: Page) -> usize
-    ensures { result ≡ page_place page }
+/// The index of a page among all pages.
+fn index_of_page(page: Page) -> usize
+    ensures { result ≡ page_index_of page }
 {
     map_index(page.tenant, page.map) * MAX_PAGES + page.number as usize
 }
@@ -140,8 +140,8 @@ impl Memory {
         requires { AreLimits frames tenants }
         ensures { IfOk result (λ memory. memory ≡ new_memory frames tenants options) }
     {
-        let places = tenants * 2048;
-        let table = Table::new(alloc, frames, places)?;
+        let page_indices = tenants * 2048;
+        let table = Table::new(alloc, frames, page_indices)?;
         let shapes = vec![in alloc; None; tenants as usize * MAX_MAPS]?;
         let pass = Pass::new(alloc, frames, tenants * 8, options)?;
         let tenants = vec![in alloc; Tenant::NO_RUN; tenants as usize]?;
@@ -211,14 +211,14 @@ impl Memory {
     /// What is kept of a page.
     pub fn entry(&self, page: Page) -> Entry
         requires { IsPageOf self.now page }
-        ensures state { state_at self.now.sharing (page_place page) ≡ Some (state_of result) }
-        ensures frame { frame_at self.now (page_place page) ≡ Some result.frame }
+        ensures state { state_at self.now.sharing (page_index_of page) ≡ Some (state_of result) }
+        ensures frame { frame_at self.now (page_index_of page) ≡ Some result.frame }
         ensures there { result.frame < length self.now.arena }
         ensures protection { result.protected ≡ is_shared result.status }
         ensures content { page_at self.now.arena result.frame ≡ page_bytes (bytes_of_map self.now page) page.number }
-        ensures bytes { page_at self.now.arena result.frame ≡ contents_now self.now (page_place page) }
+        ensures bytes { page_at self.now.arena result.frame ≡ contents_now self.now (page_index_of page) }
     {
-        let Some(entry) = self.table.entry(place_of(page)) else {
+        let Some(entry) = self.table.entry(index_of_page(page)) else {
             unreachable!()
         };
         entry
@@ -240,7 +240,7 @@ impl Memory {
         self.table.facts();
     }
 
-    /// What each memory's maps meet: each tenant has eight places for them, and the maps that are
+    /// What each memory's maps meet: each tenant has eight entries for them, and the maps that are
     /// there have as many bytes as their shapes say. The function does nothing.
     pub fn maps_are_flat(&self)
         ensures there { (t : ℕ) → t < length self.now.tenants → length (part self.now t).maps ≡ 8 }
@@ -269,9 +269,9 @@ impl Memory {
             map_at (part self.new tenant).maps m ≡ Some (zero_map (shape_of value_size entries))) }
         ensures other_maps { IfOk result (λ m.
             AreMapsKeptBut m (part self.old tenant) (part self.new tenant)) }
-        ensures others { IsKeptBut tenant self.old self.new }
+        ensures others { OtherTenantsUnchanged tenant self.old self.new }
         ensures sharing { IfOk result (λ m. self.new.sharing ≡ with_new_pages self.old.sharing
-            (map_place tenant m * 256) (page_count (shape_of value_size entries)) mergeable) }
+            (map_index_of tenant m * 256) (page_count (shape_of value_size entries)) mergeable) }
         ensures free { OnOk result
             (free_of self.new + page_count (shape_of value_size entries) ≡ free_of self.old) }
         ensures settings { KeepsSettings self.old self.new }
@@ -321,9 +321,9 @@ impl Memory {
         ensures created { part self.new tenant ≡ part_created (part self.old tenant) number shape }
         ensures there { map_at (part self.new tenant).maps number ≡ Some (zero_map shape) }
         ensures other_maps { AreMapsKeptBut number (part self.old tenant) (part self.new tenant) }
-        ensures others { IsKeptBut tenant self.old self.new }
+        ensures others { OtherTenantsUnchanged tenant self.old self.new }
         ensures sharing { self.new.sharing ≡
-            with_new_pages self.old.sharing (map_place tenant number * 256) (page_count shape) mergeable }
+            with_new_pages self.old.sharing (map_index_of tenant number * 256) (page_count shape) mergeable }
         ensures free { free_of self.new + page_count shape ≡ free_of self.old }
         ensures settings { KeepsSettings self.old self.new }
     {
@@ -333,7 +333,7 @@ impl Memory {
     }
 
     /// Takes a tenant's map away. Its pages leave their groups, the zero frame and the waiting list; a
-    /// frame on which no other page lies is free then, and nothing is copied. If no page behind the
+    /// frame on which no other page lies is free then, and nothing is copied. If no page after the
     /// cursor may be merged now, the pass ends. The call takes no memory, and looks at the map's
     /// pages, at those that wait, and for the next page that may be merged.
     ///
@@ -343,9 +343,9 @@ impl Memory {
         ensures there { OnOk result (IsSome (map_at (part self.old tenant).maps map)) }
         ensures dropped { OnOk result (part self.new tenant ≡ part_dropped (part self.old tenant) map) }
         ensures other_maps { AreMapsKeptBut map (part self.old tenant) (part self.new tenant) }
-        ensures others { IsKeptBut tenant self.old self.new }
+        ensures others { OtherTenantsUnchanged tenant self.old self.new }
         ensures sharing { OnOk result (self.new.sharing ≡ dropped self.old.sharing
-            (map_place tenant map * 256) (pages_of_map (part self.old tenant) map)) }
+            (map_index_of tenant map * 256) (pages_of_map (part self.old tenant) map)) }
         ensures freed { free_of self.old ≤ free_of self.new }
         ensures have { have_of self.new + free_of self.old ≡ have_of self.old + free_of self.new }
         ensures settings { KeepsSettings self.old self.new }
@@ -369,9 +369,9 @@ impl Memory {
         requires shape { IsShape shape }
         ensures dropped { part self.new tenant ≡ part_dropped (part self.old tenant) map }
         ensures other_maps { AreMapsKeptBut map (part self.old tenant) (part self.new tenant) }
-        ensures others { IsKeptBut tenant self.old self.new }
+        ensures others { OtherTenantsUnchanged tenant self.old self.new }
         ensures sharing { self.new.sharing ≡
-            dropped self.old.sharing (map_place tenant map * 256) (page_count shape) }
+            dropped self.old.sharing (map_index_of tenant map * 256) (page_count shape) }
         ensures freed { free_of self.old ≤ free_of self.new }
         ensures have { have_of self.new + free_of self.old ≡ have_of self.old + free_of self.new }
         ensures settings { KeepsSettings self.old self.new }
@@ -399,22 +399,22 @@ impl Memory {
             with_part (bytes_of_map self.old page) (page.number * 4096 + at) bytes.now }
         ensures length { length (bytes_of_map self.new page) ≡ length (bytes_of_map self.old page) }
         ensures other_maps { AreMapsKeptBut page.map (part self.old page.tenant) (part self.new page.tenant) }
-        ensures others { IsKeptBut page.tenant self.old self.new }
+        ensures others { OtherTenantsUnchanged page.tenant self.old self.new }
         ensures sharing { self.new.sharing ≡ self.old.sharing }
         ensures frames { self.new.frames ≡ self.old.frames }
         ensures settings { KeepsSettings self.old self.new }
     {
-        self.table.put(place_of(page), at, bytes);
+        self.table.put(index_of_page(page), at, bytes);
     }
 
     /// How many frames the break of a page takes: one for a page that shares its frame, none for the
     /// last page of a group and for a page that has its own frame.
     pub fn break_cost(&self, page: Page) -> u32
         requires { IsPageOf self.now page }
-        ensures { result ≡ break_cost self.now.sharing (page_place page) }
+        ensures { result ≡ break_cost self.now.sharing (page_index_of page) }
     {
-        self.table.costs_are_told();
-        self.table.break_cost(place_of(page))
+        self.table.costs_are_reported();
+        self.table.break_cost(index_of_page(page))
     }
 
     /// How many frames the breaks of `count` pages of a map take, one after another from the first,
@@ -423,9 +423,9 @@ impl Memory {
     pub fn break_costs(&self, first: Page, count: u32) -> u32
         requires there { IsPageOf self.now first }
         requires pages { (first.number + count) * 4096 < length (bytes_of_map self.now first) + 4096 }
-        ensures { result ≡ cost_from self.now.sharing (page_place first) count }
+        ensures { result ≡ cost_from self.now.sharing (page_index_of first) count }
     {
-        self.table.break_costs(place_of(first), count)
+        self.table.break_costs(index_of_page(first), count)
     }
 
     /// Takes a page out of its group, or off the frame of zeros, so that it may be written: the
@@ -433,17 +433,17 @@ impl Memory {
     /// is pinned then where its tenant has an open run. A page that has its own frame stays as it is.
     pub fn take_out(&mut self, page: Page)
         requires there { IsPageOf self.old page }
-        requires room { break_cost self.old.sharing (page_place page) ≤ have_of self.old }
-        ensures frames { break_cost self.old.sharing (page_place page) ≡ 0 → self.new.frames ≡ self.old.frames }
+        requires room { break_cost self.old.sharing (page_index_of page) ≤ have_of self.old }
+        ensures frames { break_cost self.old.sharing (page_index_of page) ≡ 0 → self.new.frames ≡ self.old.frames }
         ensures maps { self.new.maps ≡ self.old.maps }
         ensures part { part self.new page.tenant ≡
             with_pins (part_of self.new.sharing.pins (page.tenant * 2048) 2048) (part self.old page.tenant) }
-        ensures others { IsKeptBut page.tenant self.old self.new }
+        ensures others { OtherTenantsUnchanged page.tenant self.old self.new }
         ensures sharing { self.new.sharing ≡
-            broken_by (part self.old page.tenant).running self.old.sharing (page_place page) }
+            broken_for_run (part self.old page.tenant).running self.old.sharing (page_index_of page) }
         ensures own { IsOwn self.new page }
-        ensures free { free_of self.new + break_cost self.old.sharing (page_place page) ≡ free_of self.old }
-        ensures have { have_of self.new + break_cost self.old.sharing (page_place page) ≡ have_of self.old }
+        ensures free { free_of self.new + break_cost self.old.sharing (page_index_of page) ≡ free_of self.old }
+        ensures have { have_of self.new + break_cost self.old.sharing (page_index_of page) ≡ have_of self.old }
         ensures settings { KeepsSettings self.old self.new }
     {
         let is_running = self.is_running(page.tenant);
@@ -454,41 +454,41 @@ impl Memory {
     /// makes pins nothing. Only for a tenant that has an open run a pin may be asked.
     pub fn take_out_as(&mut self, page: Page, is_pinned: bool)
         requires there { IsPageOf self.old page }
-        requires room { break_cost self.old.sharing (page_place page) ≤ have_of self.old }
+        requires room { break_cost self.old.sharing (page_index_of page) ≤ have_of self.old }
         requires run { is_pinned ≡ true → (part self.old page.tenant).running ≡ true }
-        ensures frames { break_cost self.old.sharing (page_place page) ≡ 0 → self.new.frames ≡ self.old.frames }
+        ensures frames { break_cost self.old.sharing (page_index_of page) ≡ 0 → self.new.frames ≡ self.old.frames }
         ensures maps { self.new.maps ≡ self.old.maps }
         ensures part { part self.new page.tenant ≡
             with_pins (part_of self.new.sharing.pins (page.tenant * 2048) 2048) (part self.old page.tenant) }
-        ensures others { IsKeptBut page.tenant self.old self.new }
-        ensures sharing { self.new.sharing ≡ broken_by is_pinned self.old.sharing (page_place page) }
+        ensures others { OtherTenantsUnchanged page.tenant self.old self.new }
+        ensures sharing { self.new.sharing ≡ broken_for_run is_pinned self.old.sharing (page_index_of page) }
         ensures own { IsOwn self.new page }
-        ensures free { free_of self.new + break_cost self.old.sharing (page_place page) ≡ free_of self.old }
-        ensures have { have_of self.new + break_cost self.old.sharing (page_place page) ≡ have_of self.old }
+        ensures free { free_of self.new + break_cost self.old.sharing (page_index_of page) ≡ free_of self.old }
+        ensures have { have_of self.new + break_cost self.old.sharing (page_index_of page) ≡ have_of self.old }
         ensures settings { KeepsSettings self.old self.new }
     {
-        self.table.costs_are_told();
+        self.table.costs_are_reported();
         let pins = self.pins(page, is_pinned);
-        let place = place_of(page);
-        self.table.take_out(place);
-        self.pass.pins.pin_if(pins, place);
+        let page_index = index_of_page(page);
+        self.table.take_out(page_index);
+        self.pass.pins.pin_if(pins, page_index);
     }
 
     /// Whether the break of a page pins it: that is asked, and it lies on a frame that isn't its own.
     fn pins(&self, page: Page, is_asked: bool) -> bool
         requires { IsPageOf self.now page }
-        ensures { result ≡ (is_asked && is_shared_page (state_at self.now.sharing (page_place page))) }
+        ensures { result ≡ (is_asked && is_shared_page (state_at self.now.sharing (page_index_of page))) }
     {
-        is_asked && self.table.is_shared(place_of(page))
+        is_asked && self.table.is_shared(index_of_page(page))
     }
 
     /// Whether a page is pinned: the open run of its tenant took it out, and it isn't merged before
     /// that run's end.
     pub fn is_pinned(&self, page: Page) -> bool
         requires { IsPageOf self.now page }
-        ensures { result ≡ is_pinned self.now.sharing.pins (page_place page) }
+        ensures { result ≡ is_pinned self.now.sharing.pins (page_index_of page) }
     {
-        self.pass.pins.is_pinned(place_of(page))
+        self.pass.pins.is_pinned(index_of_page(page))
     }
 
     /// Makes two pages of the same bytes a new last group, on one write-protected frame; the frame of
@@ -503,13 +503,13 @@ impl Memory {
             ≡ page_bytes (bytes_of_map self.old second) second.number }
         ensures maps { self.new.maps ≡ self.old.maps }
         ensures kept { AreKept self.old self.new }
-        ensures sharing { self.new.sharing ≡ paired self.old.sharing (page_place first) (page_place second) }
+        ensures sharing { self.new.sharing ≡ paired self.old.sharing (page_index_of first) (page_index_of second) }
         ensures free { free_of self.new ≡ free_of self.old + 1 }
         ensures have { have_of self.new ≡ have_of self.old + 1 }
         ensures settings { KeepsSettings self.old self.new }
     {
-        let first = place_of(first);
-        let second = place_of(second);
+        let first = index_of_page(first);
+        let second = index_of_page(second);
         self.table.pair(first, second);
         self.pass.waiting.forget(second);
         self.pass.waiting.forget(first);
@@ -523,14 +523,14 @@ impl Memory {
         requires zeros { page_bytes (bytes_of_map self.old page) page.number ≡ zero_page }
         ensures maps { self.new.maps ≡ self.old.maps }
         ensures kept { AreKept self.old self.new }
-        ensures sharing { self.new.sharing ≡ zeroed self.old.sharing (page_place page) }
+        ensures sharing { self.new.sharing ≡ zeroed self.old.sharing (page_index_of page) }
         ensures free { free_of self.new ≡ free_of self.old + 1 }
         ensures have { have_of self.new ≡ have_of self.old + 1 }
         ensures settings { KeepsSettings self.old self.new }
     {
-        let place = place_of(page);
-        self.table.zero(place);
-        self.pass.waiting.forget(place);
+        let page_index = index_of_page(page);
+        self.table.zero(page_index);
+        self.pass.waiting.forget(page_index);
     }
 }
 
@@ -539,11 +539,11 @@ impl Memory {
     /// dropped since.
     #[tactic(auto, unfolding(crate::specs::View::view_of))]
     pub fn cursor(&self) -> Option<Page>
-        ensures place { option_map page_place result ≡ self.now.sharing.cursor }
+        ensures page_index { option_map page_index_of result ≡ self.now.sharing.cursor }
         ensures named { IfSome result (λ page. (page.map < 8) × (page.number < 256)) }
     {
         match self.pass.cursor {
-            Some(place) => Some(page_at(place)),
+            Some(page_index) => Some(page_at(page_index)),
             None => None,
         }
     }
@@ -557,7 +557,7 @@ impl Memory {
     }
 
     /// Whether there is a group.
-    #[tactic(auto, using(crate::proofs::Counting::groups_told), unfolding(crate::specs::View::view_of))]
+    #[tactic(auto, using(crate::proofs::Counting::groups_reported), unfolding(crate::specs::View::view_of))]
     pub fn has_groups(&self) -> bool
         ensures { result ≡ nat_lt 0 (length self.now.sharing.groups) }
     {
@@ -578,16 +578,16 @@ impl Memory {
         self.pass.set(option, value);
     }
 
-    /// The page that is visited next: the first one behind the cursor that may be merged.
+    /// The page that is visited next: the first one after the cursor that may be merged.
     pub fn next_page(&self) -> Option<Page>
-        ensures place { option_map page_place result ≡ page_to_visit self.now.sharing }
+        ensures page_index { option_map page_index_of result ≡ page_to_visit self.now.sharing }
         ensures there { IfSome result (IsPageOf self.now) }
         ensures mergeable { IfSome result (λ page.
-            is_mergeable (state_at self.now.sharing (page_place page)) ≡ true) }
+            is_mergeable (state_at self.now.sharing (page_index_of page)) ≡ true) }
     {
         self.table.facts();
         match next_mergeable(&self.table, &self.shapes, self.pass.look_from()) {
-            Some(place) => Some(page_at(place)),
+            Some(page_index) => Some(page_at(page_index)),
             None => None,
         }
     }
@@ -600,17 +600,17 @@ impl Memory {
         self.pass.waiting.flush();
     }
 
-    /// Makes the next page the one visited last. Behind the last page that may be merged the pass
+    /// Makes the next page the one visited last. After the last page that may be merged the pass
     /// ends.
     pub fn advance(&mut self, page: Page)
-        requires next { page_to_visit self.old.sharing ≡ Some (page_place page) }
+        requires next { page_to_visit self.old.sharing ≡ Some (page_index_of page) }
         requires start { self.old.sharing.cursor ≡ None → self.old.sharing.waiting ≡ [] }
-        ensures moved { self.new ≡ record self.old { sharing = moved_on self.old.sharing (page_place page) } }
+        ensures moved { self.new ≡ record self.old { sharing = moved_on self.old.sharing (page_index_of page) } }
         ensures free { IsNotWaiting self.new page }
     {
-        let place = place_of(page);
-        if next_mergeable(&self.table, &self.shapes, place + 1).is_some() {
-            self.pass.cursor = Some(place);
+        let page_index = index_of_page(page);
+        if next_mergeable(&self.table, &self.shapes, page_index + 1).is_some() {
+            self.pass.cursor = Some(page_index);
         } else {
             self.pass.end();
         }
@@ -624,33 +624,33 @@ impl Memory {
         requires free { IsNotWaiting self.old page }
         ensures maps { self.new.maps ≡ self.old.maps }
         ensures kept { AreKept self.old self.new }
-        ensures sharing { self.new.sharing ≡ changed self.old.sharing (page_place page) fingerprint }
+        ensures sharing { self.new.sharing ≡ changed self.old.sharing (page_index_of page) fingerprint }
         ensures have { have_of self.new ≡ have_of self.old }
         ensures settings { KeepsSettings self.old self.new }
     {
         self.table
-            .mark(place_of(page), Status::Volatile, fingerprint);
+            .mark(index_of_page(page), Status::Volatile, fingerprint);
     }
 
     /// Puts a page on the waiting list, with the fingerprint that it had at its last visit and has
-    /// now. The page doesn't stand behind the cursor.
+    /// now. The page doesn't stand after the cursor.
     pub fn wait(&mut self, page: Page, fingerprint: u64)
         requires there { IsPageOf self.old page }
         requires may { MayMerge self.old page }
         requires free { IsNotWaiting self.old page }
         requires last { HadFingerprint self.old page fingerprint }
-        requires behind { IfSome self.old.sharing.cursor (λ c. page_place page ≤ c) }
+        requires at_or_before { IfSome self.old.sharing.cursor (λ c. page_index_of page ≤ c) }
         ensures maps { self.new.maps ≡ self.old.maps }
         ensures kept { AreKept self.old self.new }
-        ensures sharing { self.new.sharing ≡ waits self.old.sharing (page_place page) fingerprint }
+        ensures sharing { self.new.sharing ≡ waits self.old.sharing (page_index_of page) fingerprint }
         ensures have { have_of self.new ≡ have_of self.old }
         ensures settings { KeepsSettings self.old self.new }
     {
-        let place = place_of(page);
-        let frame = self.table.page(place).frame;
-        self.table.mark(place, Status::Waiting, fingerprint);
+        let page_index = index_of_page(page);
+        let frame = self.table.page(page_index).frame;
+        self.table.mark(page_index, Status::Waiting, fingerprint);
         self.pass.waiting.insert(Waiter {
-            place,
+            page_index,
             frame,
             fingerprint,
         });
@@ -661,7 +661,7 @@ impl Memory {
     pub fn partner(&self, page: Page, fingerprint: u64) -> Option<Page>
         requires there { IsPageOf self.now page }
         requires free { IsNotWaiting self.now page }
-        ensures found { option_map page_place result ≡ partner_place self.now (page_place page) fingerprint }
+        ensures found { option_map page_index_of result ≡ partner_index self.now (page_index_of page) fingerprint }
         ensures there { IfSome result (IsPageOf self.now) }
         ensures may { IfSome result (MayMerge self.now) }
         ensures apart { IfSome result (λ other. other ≢ page) }
@@ -675,7 +675,7 @@ impl Memory {
             .waiting
             .find(self.table.arena(), fingerprint, frame)
         {
-            Some(waiter) => Some(page_at(waiter.place)),
+            Some(waiter) => Some(page_at(waiter.page_index)),
             None => None,
         }
     }
@@ -683,8 +683,8 @@ impl Memory {
     /// The frame of the earliest group of a page's bytes that has fewer pages than a frame may hold.
     pub fn open_group(&self, page: Page) -> Option<u32>
         requires { IsPageOf self.now page }
-        ensures frame { result ≡ open_frame self.now (page_place page) }
-        ensures told { is_some result ≡ has_open (contents_now self.now) self.now.sharing (page_place page) }
+        ensures frame { result ≡ open_frame self.now (page_index_of page) }
+        ensures answer { is_some result ≡ has_open (contents_now self.now) self.now.sharing (page_index_of page) }
     {
         self.table.facts();
         let frame = self.entry(page).frame;
@@ -697,16 +697,16 @@ impl Memory {
         requires there { IsPageOf self.old page }
         requires may { MayMerge self.old page }
         requires free { IsNotWaiting self.old page }
-        requires open { open_frame self.old (page_place page) ≡ Some group }
+        requires open { open_frame self.old (page_index_of page) ≡ Some group }
         ensures maps { self.new.maps ≡ self.old.maps }
         ensures kept { AreKept self.old self.new }
-        ensures sharing { self.new.sharing ≡ joined (contents_now self.old) self.old.sharing (page_place page) }
+        ensures sharing { self.new.sharing ≡ joined (contents_now self.old) self.old.sharing (page_index_of page) }
         ensures free { free_of self.new ≡ free_of self.old + 1 }
         ensures have { have_of self.new ≡ have_of self.old + 1 }
         ensures settings { KeepsSettings self.old self.new }
     {
         self.table.facts();
-        self.table.join(place_of(page), group);
+        self.table.join(index_of_page(page), group);
     }
 }
 
@@ -725,7 +725,7 @@ impl Memory {
 
     /// Gives each page that shares a frame one of its own, in the order of the pages, and stops the
     /// scanner: `run` is 2 then. No page shares a frame then, and none is pinned that wasn't. The call
-    /// looks at each page's place.
+    /// looks at each page's index.
     pub fn unmerge(&mut self)
         requires { unmerge_need self.old.sharing ≤ have_of self.old }
         ensures maps { self.new.maps ≡ self.old.maps }
@@ -741,7 +741,7 @@ impl Memory {
     }
 }
 
-/// The shapes of a tenant's maps by number, from the place of its first one on.
+/// The shapes of a tenant's maps by number, from the index of its first one on.
 fn shapes_from(shapes: &[Option<Shape>], first: usize) -> &[Option<Shape>]
     requires { first + MAX_MAPS ≤ length shapes.now }
     ensures shapes { result.now ≡ part_of shapes.now first 8 }
@@ -750,7 +750,7 @@ fn shapes_from(shapes: &[Option<Shape>], first: usize) -> &[Option<Shape>]
     &shapes[first..first + MAX_MAPS]
 }
 
-/// The shape at a place, if there is one.
+/// The shape at an index, if there is one.
 fn shape_at(shapes: &[Option<Shape>], index: usize) -> Option<Shape>
     ensures { result ≡ slice_index_or shapes.now index None }
 {
@@ -760,7 +760,7 @@ fn shape_at(shapes: &[Option<Shape>], index: usize) -> Option<Shape>
     }
 }
 
-/// The first place where no map is.
+/// The first index where no map is.
 fn first_free(shapes: &[Option<Shape>]) -> Option<usize>
     ensures first { result ≡ position (λ (slot : Option Shape). is_none slot) shapes.now }
     ensures inside { IfSome result (λ n. n < length shapes.now) }
@@ -768,7 +768,7 @@ fn first_free(shapes: &[Option<Shape>]) -> Option<usize>
     shapes.iter().position(|slot| slot.is_none())
 }
 
-/// Puts new pages of zeros at places one after another.
+/// Puts new pages of zeros at indices one after another.
 fn add_pages(table: &mut Table, first: usize, count: u32, mergeable: bool)
     requires there { first + count ≤ length table.old.entries }
     requires few { length table.old.entries ≤ 32768 }

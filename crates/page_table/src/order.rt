@@ -1,11 +1,11 @@
 //! The groups in the order in which they came to be.
 ghost use Rattle.std.specs.Prelude.{◌≡◌, ◌+◌, ◌*◌, ◌<◌, ◌≤◌, ◌==◌, ◌++◌, ◌∷◌, [], not, filter, length, slice_index_or, IfOk, AllPairs, All, ◌≢◌, ℕ, vec_capacity};
-ghost use Rattle.page_table.specs.Table.{GroupsState, ArePlaced, groups_in, times};
+ghost use Rattle.page_table.specs.Table.{GroupsState, AreNumbered, groups_in, times};
 
 use std::alloc::{AllocError, Global};
 use std::marker::Model;
 
-/// What stands in the place of a group that ended: the zero frame, which no group has.
+/// What stands in place of a group that ended: the zero frame, which no group has.
 const ENDED: u32 = 0;
 
 /// The frames of the groups in order of creation. A group that ends leaves an empty slot, so that no
@@ -20,13 +20,13 @@ pub(crate) struct GroupOrder {
 
 impl Model for GroupOrder {
     ghost use Rattle.std.specs.Prelude.{◌≤◌, ◌*◌, length, vec_capacity};
-    ghost use Rattle.page_table.specs.Table.{GroupsState, ArePlaced, groups_in};
+    ghost use Rattle.page_table.specs.Table.{GroupsState, AreNumbered, groups_in};
 
     ghost Value = { GroupsState };
 
     ghost view = { λ order. record { listed = groups_in order.slots.items; frames = length order.slot_of.items } };
 
-    ghost invariant = { λ order. ArePlaced order.slots.items order.slot_of.items
+    ghost invariant = { λ order. AreNumbered order.slots.items order.slot_of.items
         × (length order.slot_of.items ≤ 4096)
         × (length order.slots.items ≤ length order.slot_of.items * 2)
         × (length order.slot_of.items * 2 ≤ vec_capacity order.slots) };
@@ -43,7 +43,7 @@ impl GroupOrder {
         Ok(GroupOrder { slots, slot_of })
     }
 
-    /// Puts a new group behind all others. It takes no memory.
+    /// Puts a new group after all others. It takes no memory.
     pub(crate) fn push(&mut self, frame: u32)
         requires above { 0 < frame }
         requires there { frame < self.old.frames }
@@ -67,13 +67,13 @@ impl GroupOrder {
     }
 }
 
-/// Sees that there is a slot behind all others: where there is none, the groups move up into the empty
+/// Sees that there is a slot after all others: where there is none, the groups move up into the empty
 /// ones.
 fn make_room(slots: &mut Vec<u32>, slot_of: &mut [u32])
-    requires placed { ArePlaced slots.old.items slot_of.old }
+    requires numbered { AreNumbered slots.old.items slot_of.old }
     requires room { length (groups_in slots.old.items) < length slot_of.old }
     requires few { length slot_of.old ≤ 4096 }
-    ensures placed { ArePlaced slots.new.items slot_of.new }
+    ensures numbered { AreNumbered slots.new.items slot_of.new }
     ensures listed { groups_in slots.new.items ≡ groups_in slots.old.items }
     ensures room { length slots.new.items < length slot_of.new * 2 }
     ensures frames { length slot_of.new ≡ length slot_of.old }
@@ -83,15 +83,15 @@ fn make_room(slots: &mut Vec<u32>, slot_of: &mut [u32])
         return;
     }
     slots.retain(|frame| *frame != ENDED);
-    place_all(slots, slot_of);
+    number_all(slots, slot_of);
 }
 
 /// Notes the slot of each group.
-fn place_all(slots: &[u32], slot_of: &mut [u32])
+fn number_all(slots: &[u32], slot_of: &mut [u32])
     requires there { All (λ frame. frame < length slot_of.old) slots.now }
     requires apart { AllPairs (λ frame other. frame ≢ other) slots.now }
     requires few { length slots.now ≤ 4096 }
-    ensures placed { (i : ℕ) → i < length slots.now → slice_index_or slot_of.new (slice_index_or slots.now i 0) 0 ≡ i }
+    ensures numbered { (i : ℕ) → i < length slots.now → slice_index_or slot_of.new (slice_index_or slots.now i 0) 0 ≡ i }
     ensures frames { length slot_of.new ≡ length slot_of.old }
 {
     for slot in 0..slots.len() {

@@ -7,7 +7,7 @@ use crate::tally::Tally;
 use std::alloc::{AllocError, Global};
 use std::marker::Model;
 
-/// The pages by place. What is counted of them is kept while they change.
+/// The pages by index. What is counted of them is kept while they change.
 #[derive(Drop)]
 pub(crate) struct PageList {
     pages: Vec<Option<Entry>>,
@@ -28,12 +28,12 @@ impl Model for PageList {
 }
 
 impl PageList {
-    /// So many places without a page.
-    pub(crate) fn new(alloc: Global, places: u32) -> Result<Self, AllocError>
-        requires { places ≤ 32768 }
-        ensures { IfOk result (λ list. list ≡ replicate places None) }
+    /// So many indices without a page.
+    pub(crate) fn new(alloc: Global, page_indices: u32) -> Result<Self, AllocError>
+        requires { page_indices ≤ 32768 }
+        ensures { IfOk result (λ list. list ≡ replicate page_indices None) }
     {
-        let pages = vec![in alloc; None; places as usize]?;
+        let pages = vec![in alloc; None; page_indices as usize]?;
         Ok(PageList {
             pages,
             tally: Tally::NONE,
@@ -47,44 +47,44 @@ impl PageList {
         &self.pages
     }
 
-    /// How many places there are.
+    /// How many indices there are.
     pub(crate) fn len(&self) -> usize
         ensures { result ≡ length self.now }
     {
         self.pages.len()
     }
 
-    /// What is kept of the page at a place.
-    pub(crate) fn get(&self, place: usize) -> Option<Entry>
-        requires { place < length self.now }
-        ensures { result ≡ entry_at self.now place }
+    /// What is kept of the page at an index.
+    pub(crate) fn get(&self, page_index: usize) -> Option<Entry>
+        requires { page_index < length self.now }
+        ensures { result ≡ entry_at self.now page_index }
     {
-        self.pages[place]
+        self.pages[page_index]
     }
 
-    /// Puts a page at a place.
-    pub(crate) fn set(&mut self, place: usize, entry: Entry)
-        requires { place < length self.old }
-        ensures { self.new ≡ slice_set self.old place (Some entry) }
+    /// Puts a page at an index.
+    pub(crate) fn set(&mut self, page_index: usize, entry: Entry)
+        requires { page_index < length self.old }
+        ensures { self.new ≡ slice_set self.old page_index (Some entry) }
     {
-        self.replace(place, Some(entry));
+        self.replace(page_index, Some(entry));
     }
 
-    /// Takes the page at a place away.
-    pub(crate) fn clear(&mut self, place: usize)
-        requires { place < length self.old }
-        ensures { self.new ≡ slice_set self.old place None }
+    /// Takes the page at an index away.
+    pub(crate) fn clear(&mut self, page_index: usize)
+        requires { page_index < length self.old }
+        ensures { self.new ≡ slice_set self.old page_index None }
     {
-        self.replace(place, None);
+        self.replace(page_index, None);
     }
 
-    fn replace(&mut self, place: usize, page: Option<Entry>)
-        requires { place < length self.old }
-        ensures { self.new ≡ slice_set self.old place page }
+    fn replace(&mut self, page_index: usize, page: Option<Entry>)
+        requires { page_index < length self.old }
+        ensures { self.new ≡ slice_set self.old page_index page }
     {
-        let before = Tally::of(self.pages[place]);
+        let before = Tally::of(self.pages[page_index]);
         self.tally = self.tally.moved(before, Tally::of(page));
-        self.pages[place] = page;
+        self.pages[page_index] = page;
     }
 
     /// What is counted of the pages. The numbers are kept, and no page is looked at.

@@ -12,7 +12,7 @@ use unstable_tree::UnstableTree;
 #[derive(Drop)]
 pub(crate) struct Pass {
     pub(crate) options: Options,
-    /// The place of the page that was visited last in this pass; none at its start.
+    /// The index of the page that was visited last in this pass; none at its start.
     pub(crate) cursor: Option<usize>,
     /// How many passes ended.
     pub(crate) full_scans: u64,
@@ -23,7 +23,7 @@ pub(crate) struct Pass {
 }
 
 impl Pass {
-    /// The start of the first pass over so many maps, each of 256 places. So many pages at most have
+    /// The start of the first pass over so many maps, each of 256 indices. So many pages at most have
     /// frames of their own.
     pub(crate) fn new(
         alloc: Global,
@@ -45,13 +45,13 @@ impl Pass {
         })
     }
 
-    /// The place where the next visit looks first.
+    /// The index where the next visit looks first.
     pub(crate) fn look_from(&self) -> usize
         requires { IfSome self.now.cursor (λ c. c < 32768) }
         ensures { result ≡ look_from self.now.cursor }
     {
         match self.cursor {
-            Some(place) => place + 1,
+            Some(page_index) => page_index + 1,
             None => 0,
         }
     }

@@ -8,12 +8,12 @@ use host_types::limits::{MAX_MAPS, MAX_PAGES};
 use std::alloc::{AllocError, Global};
 use std::marker::Model;
 
-/// For each place whether its page is pinned: an open run took it out of a group or off the frame of zeros,
+/// For each index whether its page is pinned: an open run took it out of a group or off the frame of zeros,
 /// and it isn't merged before the run's end. How many pages of each map are pinned is kept beside it.
 #[derive(Drop)]
 pub(crate) struct Pins {
-    places: Vec<bool>,
-    /// By the maps' places.
+    page_indices: Vec<bool>,
+    /// By the maps' indices.
     numbers: Vec<u32>,
 }
 
@@ -23,9 +23,9 @@ impl Model for Pins {
 
     ghost Value = { List Bool };
 
-    ghost view = { λ pins. pins.places.items };
+    ghost view = { λ pins. pins.page_indices.items };
 
-    ghost invariant = { λ pins. ArePinsOf pins.places.items pins.numbers.items };
+    ghost invariant = { λ pins. ArePinsOf pins.page_indices.items pins.numbers.items };
 }
 
 impl Pins {
@@ -36,17 +36,17 @@ impl Pins {
         ensures { IfOk result (λ pins. pins ≡ replicate (maps * 256) false) }
     {
         Ok(Pins {
-            places: vec![in alloc; false; maps as usize * MAX_PAGES]?,
+            page_indices: vec![in alloc; false; maps as usize * MAX_PAGES]?,
             numbers: vec![in alloc; 0; maps as usize]?,
         })
     }
 
-    /// Whether the page at a place is pinned.
-    pub(crate) fn is_pinned(&self, place: usize) -> bool
-        requires { place < length self.now }
-        ensures { result ≡ is_pinned self.now place }
+    /// Whether the page at an index is pinned.
+    pub(crate) fn is_pinned(&self, page_index: usize) -> bool
+        requires { page_index < length self.now }
+        ensures { result ≡ is_pinned self.now page_index }
     {
-        self.places[place]
+        self.page_indices[page_index]
     }
 
     /// How many pages of a map are pinned.
@@ -57,24 +57,24 @@ impl Pins {
         self.numbers[index]
     }
 
-    /// Pins the page at a place, if it is to be.
-    pub(crate) fn pin_if(&mut self, is_pinned: bool, place: usize)
-        requires { place < length self.old }
-        ensures { self.new ≡ (if is_pinned then slice_set self.old place true else self.old) }
+    /// Pins the page at an index, if it is to be.
+    pub(crate) fn pin_if(&mut self, is_pinned: bool, page_index: usize)
+        requires { page_index < length self.old }
+        ensures { self.new ≡ (if is_pinned then slice_set self.old page_index true else self.old) }
     {
         if is_pinned {
-            self.pin(place);
+            self.pin(page_index);
         }
     }
 
-    /// Pins the page at a place.
-    fn pin(&mut self, place: usize)
-        requires { place < length self.old }
-        ensures { self.new ≡ slice_set self.old place true }
+    /// Pins the page at an index.
+    fn pin(&mut self, page_index: usize)
+        requires { page_index < length self.old }
+        ensures { self.new ≡ slice_set self.old page_index true }
     {
-        if !self.places[place] {
-            self.places[place] = true;
-            self.numbers[place / MAX_PAGES] += 1;
+        if !self.page_indices[page_index] {
+            self.page_indices[page_index] = true;
+            self.numbers[page_index / MAX_PAGES] += 1;
         }
     }
 
@@ -94,7 +94,7 @@ impl Pins {
         requires few { index < 128 }
         ensures { self.new ≡ with_part self.old (index * 256) (replicate 256 false) }
     {
-        clear_map(&mut self.places, index * MAX_PAGES);
+        clear_map(&mut self.page_indices, index * MAX_PAGES);
         self.numbers[index] = 0;
     }
 
@@ -110,16 +110,16 @@ impl Pins {
     }
 }
 
-/// No page of the map whose first page stands at a place is pinned.
-fn clear_map(places: &mut [bool], first: usize)
-    requires { first + 256 ≤ length places.old }
-    ensures { places.new ≡ with_part places.old first (replicate 256 false) }
+/// No page of the map whose first page stands at an index is pinned.
+fn clear_map(page_indices: &mut [bool], first: usize)
+    requires { first + 256 ≤ length page_indices.old }
+    ensures { page_indices.new ≡ with_part page_indices.old first (replicate 256 false) }
 {
-    clear(&mut places[first..first + MAX_PAGES]);
+    clear(&mut page_indices[first..first + MAX_PAGES]);
 }
 
-fn clear(places: &mut [bool])
-    ensures { places.new ≡ replicate (length places.old) false }
+fn clear(page_indices: &mut [bool])
+    ensures { page_indices.new ≡ replicate (length page_indices.old) false }
 {
-    places.fill(false);
+    page_indices.fill(false);
 }

@@ -2,7 +2,7 @@
 ghost use Rattle.std.specs.Prelude.{◌≡◌, ◌+◌, ◌*◌, ◌≤◌, ℕ, length, replicate, slice_index_or, slice_set, false};
 ghost use Rattle.host_types.specs.Pins.{released, unpinned_from};
 ghost use Rattle.page_table.specs.State.{part, have_of, unreserved_tenant};
-ghost use Rattle.page_table.specs.Changes.{IsKeptBut, pages_of_map, with_pins, with_reserve, with_run, without_run, with_record, opened, ended};
+ghost use Rattle.page_table.specs.Changes.{OtherTenantsUnchanged, pages_of_map, with_pins, with_reserve, with_run, without_run, with_record, opened, ended};
 
 use crate::memory::{Memory, map_index, pages};
 use crate::tenant::Tenant;
@@ -54,7 +54,7 @@ impl Memory {
         requires there { length (part self.old tenant).maps ≡ 8 }
         requires room { reserve ≤ have_of self.old + (part self.old tenant).reserve }
         ensures recorded { part self.new tenant ≡ with_reserve reserve (part self.old tenant) }
-        ensures others { IsKeptBut tenant self.old self.new }
+        ensures others { OtherTenantsUnchanged tenant self.old self.new }
         ensures have { have_of self.new + reserve ≡ have_of self.old + (part self.old tenant).reserve }
         ensures all { self.new ≡ with_record self.old tenant reserve }
     {
@@ -69,7 +69,7 @@ impl Memory {
         requires there { length (part self.old tenant).maps ≡ 8 }
         requires room { reserve ≤ have_of self.old + (part self.old tenant).reserve }
         ensures begun { part self.new tenant ≡ with_run reserve (part self.old tenant) }
-        ensures others { IsKeptBut tenant self.old self.new }
+        ensures others { OtherTenantsUnchanged tenant self.old self.new }
         ensures have { have_of self.new + reserve ≡ have_of self.old + (part self.old tenant).reserve }
         ensures all { self.new ≡ opened self.old tenant reserve }
     {
@@ -87,7 +87,7 @@ impl Memory {
     pub fn end_run(&mut self, tenant: u32)
         requires { length (part self.old tenant).maps ≡ 8 }
         ensures ended { part self.new tenant ≡ without_run (part self.old tenant) }
-        ensures others { IsKeptBut tenant self.old self.new }
+        ensures others { OtherTenantsUnchanged tenant self.old self.new }
         ensures have { have_of self.new ≡ have_of self.old + (part self.old tenant).reserve }
         ensures all { self.new ≡ ended self.old tenant }
     {
@@ -103,7 +103,7 @@ impl Memory {
         requires room { kept.reserve ≤ have_of self.old + (part self.old tenant).reserve }
         ensures part { part self.new tenant ≡
             record (part self.old tenant) { reserve = kept.reserve; running = kept.running } }
-        ensures others { IsKeptBut tenant self.old self.new }
+        ensures others { OtherTenantsUnchanged tenant self.old self.new }
         ensures have { have_of self.new + kept.reserve ≡ have_of self.old + (part self.old tenant).reserve }
         ensures all { self.new ≡ record self.old { tenants = slice_set self.old.tenants tenant kept } }
     {
@@ -116,7 +116,7 @@ impl Memory {
     fn unpin(&mut self, tenant: u32)
         requires { length (part self.old tenant).maps ≡ 8 }
         ensures part { part self.new tenant ≡ with_pins (replicate 2048 false) (part self.old tenant) }
-        ensures others { IsKeptBut tenant self.old self.new }
+        ensures others { OtherTenantsUnchanged tenant self.old self.new }
         ensures have { have_of self.new ≡ have_of self.old }
         ensures all { self.new ≡ record self.old { sharing = released self.old.sharing tenant } }
     {

@@ -10,8 +10,8 @@ use crate::table::Table;
 use host_types::Shape;
 use host_types::limits::MAX_PAGES;
 
-/// The first page from a place on that may be merged. No place is looked at where there is no map, or
-/// behind a map's pages.
+/// The first page from an index on that may be merged. No index is looked at where there is no map, or
+/// after a map's pages.
 pub(crate) fn next_mergeable(table: &Table, shapes: &[Option<Shape>], from: usize) -> Option<usize>
     requires maps { AreMaps shapes.now (contents_of table.now) }
     requires few { length shapes.now ≤ 128 }
@@ -19,15 +19,15 @@ pub(crate) fn next_mergeable(table: &Table, shapes: &[Option<Shape>], from: usiz
 {
     let mut at = from;
     for index in from / MAX_PAGES..shapes.len() {
-        if let Some(place) = next_in_map(table, shapes, index, at) {
-            return Some(place);
+        if let Some(page_index) = next_in_map(table, shapes, index, at) {
+            return Some(page_index);
         }
         at = (index + 1) * MAX_PAGES;
     }
     None
 }
 
-/// The first page of a map from a place on that may be merged.
+/// The first page of a map from an index on that may be merged.
 fn next_in_map(table: &Table, shapes: &[Option<Shape>], index: usize, from: usize) -> Option<usize>
     requires maps { AreMaps shapes.now (contents_of table.now) }
     requires map { index < length shapes.now }
@@ -44,7 +44,7 @@ fn next_in_map(table: &Table, shapes: &[Option<Shape>], index: usize, from: usiz
     table.next_mergeable(from, index * MAX_PAGES + pages(shape) as usize)
 }
 
-/// Ends the pass where no page behind the cursor may be merged.
+/// Ends the pass where no page after the cursor may be merged.
 pub(crate) fn end_if_done(table: &Table, shapes: &[Option<Shape>], pass: &mut Pass)
     requires maps { AreMaps shapes.now (contents_of table.now) }
     requires few { length shapes.now ≤ 128 }

@@ -2,8 +2,8 @@ ghost use Rattle.std.specs.Prelude.{◌≡◌, ◌≢◌, ◌+◌, ◌-◌, ◌<
 ghost use Rattle.host_types.specs.Bytes.{with_part};
 ghost use Rattle.page_table.specs.declared.pass.Pass.{Pass};
 ghost use Rattle.host_types.specs.declared.status.Status.TheVariants.{Grouped};
-ghost use Rattle.host_types.specs.Sharing.{new_page, is_shared, is_shared_page, state_at, broken, break_cost, broken_from, cost_from, gone, gone_from, paired, zeroed, with_status};
-ghost use Rattle.host_types.specs.Counters.{repeated_among, seconds_behind};
+ghost use Rattle.host_types.specs.Sharing.{new_page, is_shared, is_shared_page, state_at, broken, break_cost, pages_broken, cost_from, gone, gone_from, paired, zeroed, with_status};
+ghost use Rattle.host_types.specs.Counters.{repeated_among, seconds_following};
 ghost use Rattle.host_types.specs.Unmerging.{unmerge_need, SharesNothing};
 ghost use Rattle.host_types.specs.Visits.{first_mergeable, is_mergeable, with_page};
 ghost use Rattle.host_types.specs.Pages.{zero_page};
@@ -26,7 +26,7 @@ use std::marker::Model;
 /// The frame of all pages of zeros that were merged.
 const ZERO_FRAME: u32 = 0;
 
-/// The pages of all maps by place, and the frames that they lie on. Nothing here knows of maps.
+/// The pages of all maps by index, and the frames that they lie on. Nothing here knows of maps.
 #[derive(Drop)]
 pub(crate) struct Table {
     arena: FrameArena,
@@ -54,14 +54,14 @@ impl Model for Table {
 
 impl Table {
     /// A table without pages.
-    pub(crate) fn new(alloc: Global, frames: u32, places: u32) -> Result<Self, AllocError>
+    pub(crate) fn new(alloc: Global, frames: u32, page_indices: u32) -> Result<Self, AllocError>
         requires frames { (1 ≤ frames) × (frames ≤ 4096) }
-        requires places { places ≤ 32768 }
-        ensures { IfOk result (λ t. t ≡ record { arena = replicate frames zero_page; entries = replicate places None; groups = [] }) }
+        requires page_indices { page_indices ≤ 32768 }
+        ensures { IfOk result (λ t. t ≡ record { arena = replicate frames zero_page; entries = replicate page_indices None; groups = [] }) }
     {
         let arena = FrameArena::new(alloc, frames)?;
         let counts = FrameCounts::new(alloc, frames)?;
-        let entries = PageList::new(alloc, places)?;
+        let entries = PageList::new(alloc, page_indices)?;
         let groups = GroupOrder::new(alloc, frames)?;
         let mut tree = StableTree::new(alloc);
         tree.reserve(frames as usize)?;
@@ -88,12 +88,12 @@ impl Table {
         self.arena.frames();
     }
 
-    /// What the break of a page takes is told by the pages on its frame, as the sharing has it.
-    pub(crate) fn costs_are_told(&self)
+    /// What the break of a page takes is reported by the pages on its frame, as the sharing has it.
+    pub(crate) fn costs_are_reported(&self)
         ensures { (pass : Pass) (i : ℕ) →
             break_cost (sharing_of self.now pass) i ≡ break_frames self.now i }
     {
-        // a look at a field tells the invariant
+        // a look at a field gives the invariant
         let _entries = &self.entries;
     }
 
@@ -127,7 +127,7 @@ impl Table {
 
     /// How many contents have two groups or more. The number is kept, and no group is looked at.
     pub(crate) fn node_chains(&self) -> u32
-        ensures { result ≡ seconds_behind [] (map (page_at self.now.arena) self.now.groups) }
+        ensures { result ≡ seconds_following [] (map (page_at self.now.arena) self.now.groups) }
     {
         self.tree.node_chains() as u32
     }
@@ -147,42 +147,42 @@ impl Table {
         self.entries.tally()
     }
 
-    /// What is kept of the page at a place.
-    pub(crate) fn entry(&self, place: usize) -> Option<Entry>
-        requires { place < length self.now.entries }
-        ensures entry { result ≡ entry_at self.now.entries place }
+    /// What is kept of the page at an index.
+    pub(crate) fn entry(&self, page_index: usize) -> Option<Entry>
+        requires { page_index < length self.now.entries }
+        ensures entry { result ≡ entry_at self.now.entries page_index }
         ensures right { IfSome result (IsEntry self.now) }
     {
-        self.entries.get(place)
+        self.entries.get(page_index)
     }
 
     /// What is kept of a page that is there.
-    pub(crate) fn page(&self, place: usize) -> Entry
-        requires { IsPageAt self.now place }
-        ensures { entry_at self.now.entries place ≡ Some result }
+    pub(crate) fn page(&self, page_index: usize) -> Entry
+        requires { IsPageAt self.now page_index }
+        ensures { entry_at self.now.entries page_index ≡ Some result }
     {
-        let Some(entry) = self.entries.get(place) else {
+        let Some(entry) = self.entries.get(page_index) else {
             unreachable!()
         };
         entry
     }
 
     /// Whether a page lies on a frame that isn't its own.
-    pub(crate) fn is_shared(&self, place: usize) -> bool
-        requires { IsPageAt self.now place }
-        ensures { (pass : Pass) → result ≡ is_shared_page (state_at (sharing_of self.now pass) place) }
+    pub(crate) fn is_shared(&self, page_index: usize) -> bool
+        requires { IsPageAt self.now page_index }
+        ensures { (pass : Pass) → result ≡ is_shared_page (state_at (sharing_of self.now pass) page_index) }
     {
         self.facts();
-        self.page(place).protected
+        self.page(page_index).protected
     }
 
-    /// Puts a page of zeros on a frame of its own, at a place without a page.
-    pub(crate) fn add(&mut self, place: usize, mergeable: bool)
-        requires there { place < length self.old.entries }
-        requires empty { slice_index_or (contents_of self.old) place [] ≡ [] }
+    /// Puts a page of zeros on a frame of its own, at an index without a page.
+    pub(crate) fn add(&mut self, page_index: usize, mergeable: bool)
+        requires there { page_index < length self.old.entries }
+        requires empty { slice_index_or (contents_of self.old) page_index [] ≡ [] }
         requires room { used_by self.old < length self.old.arena }
-        ensures contents { contents_of self.new ≡ slice_set (contents_of self.old) place zero_page }
-        ensures states { states_of self.new.entries ≡ slice_set (states_of self.old.entries) place (Some (new_page mergeable)) }
+        ensures contents { contents_of self.new ≡ slice_set (contents_of self.old) page_index zero_page }
+        ensures states { states_of self.new.entries ≡ slice_set (states_of self.old.entries) page_index (Some (new_page mergeable)) }
         ensures groups { groups_of self.new ≡ groups_of self.old }
         ensures used { used_by self.new ≡ used_by self.old + 1 }
         ensures arena { length self.new.arena ≡ length self.old.arena }
@@ -199,36 +199,36 @@ impl Table {
             status: Status::New,
             last: None,
         };
-        self.entries.set(place, entry);
+        self.entries.set(page_index, entry);
     }
 
     /// Writes bytes into a page that has a frame of its own.
-    pub(crate) fn put(&mut self, place: usize, at: u32, bytes: &[u8])
-        requires there { IsPageAt self.old place }
-        requires own { IsOwnAt self.old place }
+    pub(crate) fn put(&mut self, page_index: usize, at: u32, bytes: &[u8])
+        requires there { IsPageAt self.old page_index }
+        requires own { IsOwnAt self.old page_index }
         requires in_page { at + length bytes.now ≤ 4096 }
-        ensures contents { contents_of self.new ≡ slice_set (contents_of self.old) place
-            (with_part (slice_index_or (contents_of self.old) place []) at bytes.now) }
+        ensures contents { contents_of self.new ≡ slice_set (contents_of self.old) page_index
+            (with_part (slice_index_or (contents_of self.old) page_index []) at bytes.now) }
         ensures entries { self.new.entries ≡ self.old.entries }
         ensures groups { self.new.groups ≡ self.old.groups }
         ensures arena { length self.new.arena ≡ length self.old.arena }
     {
-        let entry = self.page(place);
+        let entry = self.page(page_index);
         self.arena.put(entry.frame, at, bytes);
     }
 
     /// How many frames the break of a page takes. The last page of a group keeps its frame; the zero
     /// frame has one holder more than its pages, so that each of them takes one.
-    pub(crate) fn break_cost(&self, place: usize) -> u32
-        requires { IsPageAt self.now place }
-        ensures { result ≡ break_frames self.now place }
+    pub(crate) fn break_cost(&self, page_index: usize) -> u32
+        requires { IsPageAt self.now page_index }
+        ensures { result ≡ break_frames self.now page_index }
     {
-        let entry = self.page(place);
+        let entry = self.page(page_index);
         u32::from(entry.protected && self.counts.count(entry.frame) > 1)
     }
 
-    /// How many frames the breaks of the pages at `count` places take, one after another from the
-    /// first place on, each counted after the breaks before it.
+    /// How many frames the breaks of the pages at `count` indices take, one after another from the
+    /// first index on, each counted after the breaks before it.
     pub(crate) fn break_costs(&self, first: usize, count: u32) -> u32
         requires { first + count ≤ length self.now.entries }
         ensures { (pass : Pass) → result ≡ cost_from (sharing_of self.now pass) first count }
@@ -240,12 +240,12 @@ impl Table {
         cost
     }
 
-    /// How many frames the break of a page takes after the breaks of those at `number` places before
+    /// How many frames the break of a page takes after the breaks of those at `number` indices before
     /// it: of the pages on its frame, these are gone then.
     fn cost_after(&self, first: usize, number: usize) -> u32
         requires { first + number < length self.now.entries }
         ensures cost { (pass : Pass) → result ≡
-            break_cost (broken_from (sharing_of self.now pass) first number) (first + number) }
+            break_cost (pages_broken (sharing_of self.now pass) first number) (first + number) }
         ensures small { result ≤ 1 }
     {
         let (_, run) = self.entries.all().split_at(first);
@@ -262,39 +262,39 @@ impl Table {
 
     /// Takes a page out of its group or off the zero frame. A page with its own frame stays as it is, and the
     /// last page of a group keeps the frame.
-    pub(crate) fn take_out(&mut self, place: usize)
-        requires there { IsPageAt self.old place }
-        requires room { used_by self.old + break_frames self.old place ≤ length self.old.arena }
-        ensures frames { break_frames self.old place ≡ 0 → frames_of self.new.entries ≡ frames_of self.old.entries }
+    pub(crate) fn take_out(&mut self, page_index: usize)
+        requires there { IsPageAt self.old page_index }
+        requires room { used_by self.old + break_frames self.old page_index ≤ length self.old.arena }
+        ensures frames { break_frames self.old page_index ≡ 0 → frames_of self.new.entries ≡ frames_of self.old.entries }
         ensures contents { contents_of self.new ≡ contents_of self.old }
         ensures sharing { (pass : Pass) →
-            sharing_of self.new pass ≡ broken (sharing_of self.old pass) place }
-        ensures own { IsOwnAt self.new place }
+            sharing_of self.new pass ≡ broken (sharing_of self.old pass) page_index }
+        ensures own { IsOwnAt self.new page_index }
         ensures kept { AreOwnKept self.old self.new }
-        ensures used { used_by self.new ≡ used_by self.old + break_frames self.old place }
+        ensures used { used_by self.new ≡ used_by self.old + break_frames self.old page_index }
         ensures arena { length self.new.arena ≡ length self.old.arena }
     {
-        let entry = self.page(place);
+        let entry = self.page(page_index);
         if !entry.protected {
             return;
         }
         if self.counts.count(entry.frame) > 1 {
-            self.leave(place, entry);
+            self.leave(page_index, entry);
         } else {
-            self.end_group(place, entry);
+            self.end_group(page_index, entry);
         }
     }
 
     /// Moves a page from a frame on which others lie to a frame of its own.
-    fn leave(&mut self, place: usize, entry: Entry)
-        requires there { entry_at self.old.entries place ≡ Some entry }
+    fn leave(&mut self, page_index: usize, entry: Entry)
+        requires there { entry_at self.old.entries page_index ≡ Some entry }
         requires shared { is_shared entry.status ≡ true }
         requires company { 1 < one_if_zero entry.frame + pages_on entry.frame self.old.entries }
         requires room { used_by self.old < length self.old.arena }
         ensures contents { contents_of self.new ≡ contents_of self.old }
         ensures sharing { (pass : Pass) →
-            sharing_of self.new pass ≡ broken (sharing_of self.old pass) place }
-        ensures own { IsOwnAt self.new place }
+            sharing_of self.new pass ≡ broken (sharing_of self.old pass) page_index }
+        ensures own { IsOwnAt self.new page_index }
         ensures kept { AreOwnKept self.old self.new }
         ensures used { used_by self.new ≡ used_by self.old + 1 }
         ensures arena { length self.new.arena ≡ length self.old.arena }
@@ -302,24 +302,24 @@ impl Table {
         let frame = self.counts.take();
         self.arena.copy(entry.frame, frame);
         self.counts.release(entry.frame);
-        self.entries.set(place, entry.broken(frame));
+        self.entries.set(page_index, entry.broken(frame));
     }
 
     /// Ends the group of its last page, which keeps the frame.
-    fn end_group(&mut self, place: usize, entry: Entry)
-        requires there { entry_at self.old.entries place ≡ Some entry }
+    fn end_group(&mut self, page_index: usize, entry: Entry)
+        requires there { entry_at self.old.entries page_index ≡ Some entry }
         requires shared { is_shared entry.status ≡ true }
         requires last { one_if_zero entry.frame + pages_on entry.frame self.old.entries ≡ 1 }
         ensures frames { frames_of self.new.entries ≡ frames_of self.old.entries }
         ensures contents { contents_of self.new ≡ contents_of self.old }
         ensures sharing { (pass : Pass) →
-            sharing_of self.new pass ≡ broken (sharing_of self.old pass) place }
-        ensures own { IsOwnAt self.new place }
+            sharing_of self.new pass ≡ broken (sharing_of self.old pass) page_index }
+        ensures own { IsOwnAt self.new page_index }
         ensures kept { AreOwnKept self.old self.new }
         ensures used { used_by self.new ≡ used_by self.old }
         ensures arena { length self.new.arena ≡ length self.old.arena }
     {
-        self.entries.set(place, entry.broken(entry.frame));
+        self.entries.set(page_index, entry.broken(entry.frame));
         self.groups.remove(entry.frame);
         self.tree
             .remove(&mut Counted::new(&self.arena), entry.frame);
@@ -354,36 +354,36 @@ impl Table {
     }
 
     /// Puts a page of zeros, which has its own frame, on the zero frame.
-    pub(crate) fn zero(&mut self, place: usize)
-        requires there { IsPageAt self.old place }
-        requires own { IsOwnAt self.old place }
-        requires zeros { slice_index_or (contents_of self.old) place [] ≡ zero_page }
+    pub(crate) fn zero(&mut self, page_index: usize)
+        requires there { IsPageAt self.old page_index }
+        requires own { IsOwnAt self.old page_index }
+        requires zeros { slice_index_or (contents_of self.old) page_index [] ≡ zero_page }
         ensures contents { contents_of self.new ≡ contents_of self.old }
-        ensures others { AreOthersKept place self.old self.new }
+        ensures others { AreOthersKept page_index self.old self.new }
         ensures sharing { (pass : Pass) →
-            sharing_of self.new (forgets place pass) ≡ zeroed (sharing_of self.old pass) place }
+            sharing_of self.new (forgets page_index pass) ≡ zeroed (sharing_of self.old pass) page_index }
         ensures used { used_by self.new + 1 ≡ used_by self.old }
         ensures arena { length self.new.arena ≡ length self.old.arena }
     {
-        let entry = self.page(place);
+        let entry = self.page(page_index);
         self.entries
-            .set(place, entry.merged(ZERO_FRAME, Status::Zero));
+            .set(page_index, entry.merged(ZERO_FRAME, Status::Zero));
         self.counts.share(ZERO_FRAME);
         self.counts.release(entry.frame);
     }
 }
 
 impl Table {
-    /// The first page that may be merged, of those from a place on and before another.
+    /// The first page that may be merged, of those from an index on and before another.
     pub(crate) fn next_mergeable(&self, from: usize, end: usize) -> Option<usize>
         requires { end ≤ length self.now.entries }
         ensures { MatchOption result
             ((i : ℕ) → from ≤ i → i < end → is_mergeable (slice_index_or (states_of self.now.entries) i None) ≡ false)
             (λ i. first_mergeable from (drop from (states_of self.now.entries)) ≡ Some i) }
     {
-        for place in from..end {
-            if may_merge(self.entries.get(place)) {
-                return Some(place);
+        for page_index in from..end {
+            if may_merge(self.entries.get(page_index)) {
+                return Some(page_index);
             }
         }
         None
@@ -399,47 +399,47 @@ impl Table {
     }
 
     /// Moves a page, which has its own frame, to the frame of a group of the same bytes.
-    pub(crate) fn join(&mut self, place: usize, frame: u32)
-        requires there { IsPageAt self.old place }
-        requires own { IsOwnAt self.old place }
+    pub(crate) fn join(&mut self, page_index: usize, frame: u32)
+        requires there { IsPageAt self.old page_index }
+        requires own { IsOwnAt self.old page_index }
         requires group { 1 ≤ times frame self.old.groups }
-        requires same { slice_index_or (contents_of self.old) place [] ≡ page_at self.old.arena frame }
+        requires same { slice_index_or (contents_of self.old) page_index [] ≡ page_at self.old.arena frame }
         ensures contents { contents_of self.new ≡ contents_of self.old }
-        ensures states { states_of self.new.entries ≡ slice_set (states_of self.old.entries) place
-            (option_map (with_status Grouped) (slice_index_or (states_of self.old.entries) place None)) }
-        ensures groups { groups_of self.new ≡ map (joined_on self.old place frame) self.old.groups }
+        ensures states { states_of self.new.entries ≡ slice_set (states_of self.old.entries) page_index
+            (option_map (with_status Grouped) (slice_index_or (states_of self.old.entries) page_index None)) }
+        ensures groups { groups_of self.new ≡ map (joined_on self.old page_index frame) self.old.groups }
         ensures used { used_by self.new + 1 ≡ used_by self.old }
         ensures arena { length self.new.arena ≡ length self.old.arena }
-        ensures others { AreOthersKept place self.old self.new }
+        ensures others { AreOthersKept page_index self.old self.new }
     {
-        let entry = self.page(place);
+        let entry = self.page(page_index);
         self.entries
-            .set(place, entry.merged(frame, Status::Grouped));
+            .set(page_index, entry.merged(frame, Status::Grouped));
         self.counts.share(frame);
         self.counts.release(entry.frame);
     }
 
     /// Gives a page, which keeps its own frame, another status and fingerprint.
-    pub(crate) fn mark(&mut self, place: usize, status: Status, last: u64)
-        requires there { IsPageAt self.old place }
-        requires own { IsOwnAt self.old place }
+    pub(crate) fn mark(&mut self, page_index: usize, status: Status, last: u64)
+        requires there { IsPageAt self.old page_index }
+        requires own { IsOwnAt self.old page_index }
         requires status { is_shared status ≡ false }
         ensures contents { contents_of self.new ≡ contents_of self.old }
         ensures sharing { (pass : Pass) →
-            sharing_of self.new pass ≡ with_page (sharing_of self.old pass) place (marked status last) }
+            sharing_of self.new pass ≡ with_page (sharing_of self.old pass) page_index (marked status last) }
         ensures used { used_by self.new ≡ used_by self.old }
         ensures arena { self.new.arena ≡ self.old.arena }
-        ensures others { AreOthersKept place self.old self.new }
-        ensures here { (entry : Entry) → entry_at self.old.entries place ≡ Some entry →
-            entry_at self.new.entries place ≡ Some (record entry { status = status; last = Some last }) }
+        ensures others { AreOthersKept page_index self.old self.new }
+        ensures here { (entry : Entry) → entry_at self.old.entries page_index ≡ Some entry →
+            entry_at self.new.entries page_index ≡ Some (record entry { status = status; last = Some last }) }
     {
-        let entry = self.page(place);
+        let entry = self.page(page_index);
         let marked = Entry {
             status,
             last: Some(last),
             ..entry
         };
-        self.entries.set(place, marked);
+        self.entries.set(page_index, marked);
     }
 }
 
@@ -461,56 +461,56 @@ impl Table {
         self.counts.count(ZERO_FRAME) - 1
     }
 
-    /// How many places there are.
-    pub(crate) fn places(&self) -> usize
+    /// How many indices there are.
+    pub(crate) fn page_indices(&self) -> usize
         ensures { result ≡ length self.now.entries }
     {
         self.entries.len()
     }
 
-    /// Gives each page that shares a frame one of its own, in the order of their places.
+    /// Gives each page that shares a frame one of its own, in the order of their indices.
     pub(crate) fn take_out_all(&mut self)
         requires { (pass : Pass) →
             used_by self.old + unmerge_need (sharing_of self.old pass) ≤ length self.old.arena }
         ensures contents { contents_of self.new ≡ contents_of self.old }
         ensures sharing { (pass : Pass) → sharing_of self.new pass
-            ≡ broken_from (sharing_of self.old pass) 0 (length self.old.entries) }
+            ≡ pages_broken (sharing_of self.old pass) 0 (length self.old.entries) }
         ensures none { (pass : Pass) →
-            SharesNothing (broken_from (sharing_of self.old pass) 0 (length self.old.entries)) }
+            SharesNothing (pages_broken (sharing_of self.old pass) 0 (length self.old.entries)) }
         ensures kept { AreOwnKept self.old self.new }
         ensures used { (pass : Pass) →
             used_by self.new ≡ used_by self.old + unmerge_need (sharing_of self.old pass) }
         ensures arena { length self.new.arena ≡ length self.old.arena }
     {
         self.facts();
-        for place in 0..self.places() {
-            self.take_out_at(place);
+        for page_index in 0..self.page_indices() {
+            self.take_out_at(page_index);
         }
     }
 
-    /// Takes the page at a place out, if one is there.
-    fn take_out_at(&mut self, place: usize)
-        requires there { place < length self.old.entries }
+    /// Takes the page at an index out, if one is there.
+    fn take_out_at(&mut self, page_index: usize)
+        requires there { page_index < length self.old.entries }
         requires room { (pass : Pass) →
-            used_by self.old + break_cost (sharing_of self.old pass) place ≤ length self.old.arena }
+            used_by self.old + break_cost (sharing_of self.old pass) page_index ≤ length self.old.arena }
         ensures contents { contents_of self.new ≡ contents_of self.old }
         ensures sharing { (pass : Pass) →
-            sharing_of self.new pass ≡ broken (sharing_of self.old pass) place }
+            sharing_of self.new pass ≡ broken (sharing_of self.old pass) page_index }
         ensures kept { AreOwnKept self.old self.new }
         ensures used { (pass : Pass) →
-            used_by self.new ≡ used_by self.old + break_cost (sharing_of self.old pass) place }
+            used_by self.new ≡ used_by self.old + break_cost (sharing_of self.old pass) page_index }
         ensures arena { length self.new.arena ≡ length self.old.arena }
     {
         self.facts();
-        self.costs_are_told();
-        if self.entry(place).is_some() {
-            self.take_out(place);
+        self.costs_are_reported();
+        if self.entry(page_index).is_some() {
+            self.take_out(page_index);
         }
     }
 }
 
 impl Table {
-    /// Takes away the pages at `count` places, one after another from the first on.
+    /// Takes away the pages at `count` indices, one after another from the first on.
     pub(crate) fn remove_all(&mut self, first: usize, count: u32)
         requires inside { first + count ≤ length self.old.entries }
         requires there { (i : ℕ) → i < count → IsPageAt self.old (first + i) }
@@ -529,38 +529,38 @@ impl Table {
 
     /// Takes a page away. Its frame is unused then where no other page lies on it; nothing is copied.
     #[tactic(auto, using(std::proofs::lemmas::Bool::Decides::nat_tests, crate::proofs::Vacating::gone_ended))]
-    fn remove(&mut self, place: usize)
-        requires { IsPageAt self.old place }
-        ensures contents { contents_of self.new ≡ slice_set (contents_of self.old) place [] }
+    fn remove(&mut self, page_index: usize)
+        requires { IsPageAt self.old page_index }
+        ensures contents { contents_of self.new ≡ slice_set (contents_of self.old) page_index [] }
         ensures sharing { (pass : Pass) →
-            sharing_of self.new pass ≡ record (gone (sharing_of self.old pass) place) { pins = pass.pins } }
+            sharing_of self.new pass ≡ record (gone (sharing_of self.old pass) page_index) { pins = pass.pins } }
         ensures used { used_by self.new ≤ used_by self.old }
         ensures arena { length self.new.arena ≡ length self.old.arena }
-        ensures kept { AreOwnKeptOutside place 1 self.old self.new }
+        ensures kept { AreOwnKeptOutside page_index 1 self.old self.new }
     {
-        let entry = self.page(place);
+        let entry = self.page(page_index);
         if !entry.protected || self.counts.count(entry.frame) > 1 {
-            self.vacate(place, entry);
+            self.vacate(page_index, entry);
             return;
         }
-        self.end_group(place, entry);
-        let left = self.page(place);
-        self.vacate(place, left);
+        self.end_group(page_index, entry);
+        let left = self.page(page_index);
+        self.vacate(page_index, left);
     }
 
     /// Takes a page away that has its own frame, or from a frame on which others lie.
-    fn vacate(&mut self, place: usize, entry: Entry)
-        requires there { entry_at self.old.entries place ≡ Some entry }
+    fn vacate(&mut self, page_index: usize, entry: Entry)
+        requires there { entry_at self.old.entries page_index ≡ Some entry }
         requires company { is_shared entry.status ≡ true →
             1 < one_if_zero entry.frame + pages_on entry.frame self.old.entries }
-        ensures contents { contents_of self.new ≡ slice_set (contents_of self.old) place [] }
+        ensures contents { contents_of self.new ≡ slice_set (contents_of self.old) page_index [] }
         ensures sharing { (pass : Pass) →
-            sharing_of self.new pass ≡ record (gone (sharing_of self.old pass) place) { pins = pass.pins } }
+            sharing_of self.new pass ≡ record (gone (sharing_of self.old pass) page_index) { pins = pass.pins } }
         ensures used { used_by self.new ≤ used_by self.old }
         ensures arena { length self.new.arena ≡ length self.old.arena }
-        ensures others { AreOthersKept place self.old self.new }
+        ensures others { AreOthersKept page_index self.old self.new }
     {
-        self.entries.clear(place);
+        self.entries.clear(page_index);
         self.counts.release(entry.frame);
     }
 }

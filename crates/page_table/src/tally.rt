@@ -1,4 +1,4 @@
-//! How many pages are as the counters tell, kept as numbers while pages change.
+//! How many pages are as the counters give, kept as numbers while pages change.
 ghost use Rattle.std.specs.Prelude.{◌≡◌, ◌+◌, ◌-◌, ◌<◌, ◌≤◌, option_map};
 ghost use Rattle.host_types.specs.Counters.{unshared_at, volatile_at};
 ghost use Rattle.page_table.specs.Table.{state_of};
@@ -26,7 +26,7 @@ impl Tally {
         shared: 0,
     };
 
-    /// The tally of one place.
+    /// The tally of one index.
     pub(crate) fn of(page: Option<Entry>) -> Tally
         ensures unshared { result.unshared ≡ unshared_at (option_map state_of page) }
         ensures volatile { result.volatile ≡ volatile_at (option_map state_of page) }
@@ -52,7 +52,7 @@ impl Tally {
         }
     }
 
-    /// The same after one place, which had the tally `before`, has the tally `after`.
+    /// The same after one index, which had the tally `before`, has the tally `after`.
     pub(crate) fn moved(self, before: Tally, after: Tally) -> Tally
         requires unshared { (before.unshared ≤ self.unshared) × (self.unshared + after.unshared < 4294967296) }
         requires volatile { (before.volatile ≤ self.volatile) × (self.volatile + after.volatile < 4294967296) }

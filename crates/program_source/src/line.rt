@@ -4,7 +4,7 @@ use command_line::WrongWords;
 use host_file::FileFault;
 use std::alloc::{AllocError, Global};
 
-/// The words of a line, which single spaces set apart, behind the name of a program.
+/// The words of a line, which single spaces set apart, after the name of a program.
 pub fn words_of(alloc: Global, name: &str, line: &str) -> Result<Vec<String>, AllocError> {
     let mut words = Vec::new(alloc);
     words.push(String::from_str(alloc, name)?)?;

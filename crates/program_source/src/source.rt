@@ -10,7 +10,7 @@ use terminal_text::quoted;
 /// The most bytes of a file: hex text of the longest program, and spaces between its digits.
 const MOST: usize = 1 << 20;
 
-/// The hex text that a word is, or that is made of the file that it names behind an `@`. A file of hex digits and white
+/// The hex text that a word is, or that is made of the file that it names after an `@`. A file of hex digits and white
 /// space alone is hex text; of every other one its bytes are the program.
 pub fn hex_of<R: AllocGlobal + Files>(rt: &R, word: &str) -> Result<String, FileFault> {
     let alloc = rt.alloc();

@@ -6,7 +6,7 @@ use Rattle.host_types.specs.declared.visited.Visited.TheVariants as visited
 use Rattle.host_types.specs.Pages.{zero_page, fingerprint_of}
 use Rattle.host_types.specs.Pins.{is_pinned}
 use Rattle.host_types.specs.Sharing.{Sharing, PageState, state_at, is_shared}
-use Rattle.host_types.specs.Visits.{Contents, Visit, visit, begun, is_mergeable, look_from, next_from, page_to_visit, decided, looked_at, has_open, had, met, find_partner}
+use Rattle.host_types.specs.Visits.{Contents, Visit, visit, begun, is_mergeable, look_from, next_from, page_to_visit, decided, looked_at, has_open, had, paired_or_waiting, find_partner}
 use Rattle.page_table.proofs.Partners.{none-mergeable}
 use Rattle.page_table.proofs.Partners.{next-is}
 use Rattle.scanner.specs.Idle.{ScansNothing}
@@ -16,10 +16,10 @@ either-works : (b : Bool) (x y : Visit) → x.0 ≢ visited.Idle → y.0 ≢ vis
 either-works true x y h k = h
 either-works false x y h k = k
 
-met-works : (s : Sharing) (i fingerprint : ℕ) (found : Option (ℕ × ℕ)) → (met s i fingerprint found).0 ≢ visited.Idle
-unfolding met
-met-works s i fingerprint None e = absurd (cc)
-met-works s i fingerprint (Some entry) e = absurd (cc)
+paired_or_waiting-works : (s : Sharing) (i fingerprint : ℕ) (found : Option (ℕ × ℕ)) → (paired_or_waiting s i fingerprint found).0 ≢ visited.Idle
+unfolding paired_or_waiting
+paired_or_waiting-works s i fingerprint None e = absurd (cc)
+paired_or_waiting-works s i fingerprint (Some entry) e = absurd (cc)
 
 looked-works : (contents : Contents) (s : Sharing) (i : ℕ) (last : Option ℕ) → (looked_at contents s i last).0 ≢ visited.Idle
 unfolding looked_at
@@ -27,7 +27,7 @@ looked-works contents s i last =
     either-works (has_open contents s i) _ _ (λ e. absurd (cc))
     (either-works (not (had last (fingerprint_of (contents i)))) _ _ (λ e. absurd (cc))
     (either-works (s.options.use_zero_pages == 1 && bytes_eq (contents i) zero_page) _ _ (λ e. absurd (cc))
-    (met-works s i (fingerprint_of (contents i)) (find_partner contents s i (fingerprint_of (contents i))))))
+    (paired_or_waiting-works s i (fingerprint_of (contents i)) (find_partner contents s i (fingerprint_of (contents i))))))
 
 -- the visit of a page does something
 decided-works : (contents : Contents) (s : Sharing) (i : ℕ) (x : Option PageState) → is_mergeable x ≡ true → (decided contents s i x).0 ≢ visited.Idle
@@ -48,10 +48,10 @@ is-one : (n : ℕ) → (n == 1) ≡ true → n ≡ 1
 is-one n h = grind (arith, nat_tests)
 
 pub idle-law : (contents : Contents) (s after : Sharing) (result : Visited) → IfSome s.cursor (λ c. IsSome (next_from s (c + 1))) → visit contents s ≡ (result, after) → (result ≡ visited.Idle ↔ ScansNothing s)
-idle-law contents s after result ahead told = by_run (s.options.run == 1) refl
+idle-law contents s after result ahead answered = by_run (s.options.run == 1) refl
   where
     named : (v : Visit) → visit contents s ≡ v → result ≡ v.0
-    named v e = ap (λ (v : Visit). v.0) (sym told ∙ e)
+    named v e = ap (λ (v : Visit). v.0) (sym answered ∙ e)
 
     other : (s.options.run == 1) ≡ false → s.options.run ≢ 1
     other h same = let yes = is-same s.options.run 1 same in cc

@@ -4,17 +4,17 @@ use Rattle.host_types.specs.declared.visited.Visited.TheVariants as visited
 use Rattle.host_types.specs.Pages.{zero_page, fingerprint_of}
 use Rattle.host_types.specs.Pins.{is_pinned}
 use Rattle.host_types.specs.Sharing.{Sharing, PageState, is_shared, zeroed}
-use Rattle.host_types.specs.Visits.{Contents, begun, moved_on, next_from, decided, looked_at, has_open, joined, changed, had, met, find_partner}
+use Rattle.host_types.specs.Visits.{Contents, begun, moved_on, next_from, decided, looked_at, has_open, joined, changed, had, paired_or_waiting, find_partner}
 use Rattle.host_types.proofs.Visits as law
 
--- the visited page doesn't stand behind the cursor
+-- the visited page doesn't stand after the cursor
 cursor-either : (x y : Sharing) (b : Bool) (i : ℕ) → x.cursor ≡ Some i → y.cursor ≡ None → IfSome (if b then x else y).cursor (λ c. i ≤ c)
 cursor-either x y true i e k = subst (λ (o : Option ℕ). IfSome o (λ c. i ≤ c)) (sym e) (omega arith)
 cursor-either x y false i e k = subst (λ (o : Option ℕ). IfSome o (λ c. i ≤ c)) (sym k) tt
 
-pub moved-behind : (s : Sharing) (i : ℕ) → IfSome (moved_on s i).cursor (λ c. i ≤ c)
+pub moved-at_or_before : (s : Sharing) (i : ℕ) → IfSome (moved_on s i).cursor (λ c. i ≤ c)
 unfolding moved_on
-moved-behind s i = cursor-either _ _ (is_some (next_from s (i + 1))) i refl refl
+moved-at_or_before s i = cursor-either _ _ (is_some (next_from s (i + 1))) i refl refl
 
 -- the begin of a visit pins nothing, and ends no pin
 pins-either : (s : Sharing) (waiting : List (ℕ × ℕ)) (full_scans : ℕ) (cursor : Option ℕ) (b : Bool)
@@ -40,6 +40,6 @@ module _ (contents : Contents) (s : Sharing) (i : ℕ) (state : PageState) (own 
       → decided contents s i (Some state) ≡ (visited.Zeroed, zeroed s i)
   looked-zeroed h k z = owned ∙ law.looked-zeroed contents s i state.last h k z
 
-  pub looked-met : has_open contents s i ≡ false → had state.last (fingerprint_of (contents i)) ≡ true → (s.options.use_zero_pages == 1 && bytes_eq (contents i) zero_page) ≡ false
-      → decided contents s i (Some state) ≡ met s i (fingerprint_of (contents i)) (find_partner contents s i (fingerprint_of (contents i)))
-  looked-met h k z = owned ∙ law.looked-met contents s i state.last h k z
+  pub looked-paired_or_waiting : has_open contents s i ≡ false → had state.last (fingerprint_of (contents i)) ≡ true → (s.options.use_zero_pages == 1 && bytes_eq (contents i) zero_page) ≡ false
+      → decided contents s i (Some state) ≡ paired_or_waiting s i (fingerprint_of (contents i)) (find_partner contents s i (fingerprint_of (contents i)))
+  looked-paired_or_waiting h k z = owned ∙ law.looked-paired_or_waiting contents s i state.last h k z

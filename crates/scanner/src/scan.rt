@@ -1,9 +1,9 @@
 ghost use Rattle.std.specs.Prelude.{◌≡◌, ◌≤◌, ◌<◌, length, true, false, None, IfSome, IsTrue, ◌↔◌, ◌==◌, ◌&&◌, ◌||◌, bytes_eq};
-ghost use Rattle.host_types.specs.Pages.{page_place, zero_page, fingerprint_of};
+ghost use Rattle.host_types.specs.Pages.{page_index_of, zero_page, fingerprint_of};
 ghost use Rattle.host_types.specs.Pins.{is_pinned};
 ghost use Rattle.host_types.specs.Sharing.{state_at};
 ghost use Rattle.host_types.specs.declared.visited.Visited.TheVariants.{Idle};
-ghost use Rattle.host_types.specs.Visits.{visit, decided, had, met, find_partner, waiting_at, is_mergeable, contents_in};
+ghost use Rattle.host_types.specs.Visits.{visit, decided, had, paired_or_waiting, find_partner, waiting_at, is_mergeable, contents_in};
 ghost use Rattle.frame_arena.specs.Pages.{page_at};
 ghost use Rattle.page_table.specs.State.{MemoryState, part, frame_at};
 ghost use Rattle.page_table.specs.Changes.{AreKept, KeepsSettings, IsPageOf, MayMerge, IsNotWaiting, HadFingerprint, contents_now};
@@ -56,11 +56,11 @@ fn begin_pass(memory: &mut Memory)
 /// What becomes of the visited page: the first case that holds decides.
 fn look_at(memory: &mut Memory, page: Page) -> Visited
     requires there { IsPageOf memory.old page }
-    requires mergeable { is_mergeable (state_at memory.old.sharing (page_place page)) ≡ true }
+    requires mergeable { is_mergeable (state_at memory.old.sharing (page_index_of page)) ≡ true }
     requires free { IsNotWaiting memory.old page }
-    requires behind { IfSome memory.old.sharing.cursor (λ c. page_place page ≤ c) }
-    ensures decided { decided (contents_now memory.old) memory.old.sharing (page_place page)
-        (state_at memory.old.sharing (page_place page)) ≡ (result, memory.new.sharing) }
+    requires at_or_before { IfSome memory.old.sharing.cursor (λ c. page_index_of page ≤ c) }
+    ensures decided { decided (contents_now memory.old) memory.old.sharing (page_index_of page)
+        (state_at memory.old.sharing (page_index_of page)) ≡ (result, memory.new.sharing) }
     ensures maps { memory.new.maps ≡ memory.old.maps }
     ensures kept { AreKept memory.old memory.new }
     ensures settings { KeepsSettings memory.old memory.new }
@@ -82,13 +82,13 @@ fn look_at(memory: &mut Memory, page: Page) -> Visited
         memory.zero(page);
         return Visited::Zeroed;
     }
-    meet(memory, page, fingerprint)
+    pair_or_wait(memory, page, fingerprint)
 }
 
 /// Whether a visit leaves a page as it is: it shares a frame already, or an open run took it out.
 fn stays(memory: &Memory, page: Page, entry: Entry) -> bool
     requires { IsPageOf memory.now page }
-    ensures { result ≡ (entry.protected || is_pinned memory.now.sharing.pins (page_place page)) }
+    ensures { result ≡ (entry.protected || is_pinned memory.now.sharing.pins (page_index_of page)) }
 {
     entry.protected || memory.is_pinned(page)
 }
@@ -113,14 +113,14 @@ fn is_zeros(memory: &Memory, entry: Entry) -> bool
 }
 
 /// Makes a page and the one that waits longest for its bytes a new group, or lets it wait.
-fn meet(memory: &mut Memory, page: Page, fingerprint: u64) -> Visited
+fn pair_or_wait(memory: &mut Memory, page: Page, fingerprint: u64) -> Visited
     requires there { IsPageOf memory.old page }
     requires may { MayMerge memory.old page }
     requires free { IsNotWaiting memory.old page }
     requires last { HadFingerprint memory.old page fingerprint }
-    requires behind { IfSome memory.old.sharing.cursor (λ c. page_place page ≤ c) }
-    ensures met { met memory.old.sharing (page_place page) fingerprint
-        (find_partner (contents_now memory.old) memory.old.sharing (page_place page) fingerprint) ≡ (result, memory.new.sharing) }
+    requires at_or_before { IfSome memory.old.sharing.cursor (λ c. page_index_of page ≤ c) }
+    ensures paired_or_waiting { paired_or_waiting memory.old.sharing (page_index_of page) fingerprint
+        (find_partner (contents_now memory.old) memory.old.sharing (page_index_of page) fingerprint) ≡ (result, memory.new.sharing) }
     ensures maps { memory.new.maps ≡ memory.old.maps }
     ensures kept { AreKept memory.old memory.new }
     ensures settings { KeepsSettings memory.old memory.new }

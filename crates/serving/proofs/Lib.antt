@@ -2,7 +2,7 @@ pub mod AtFirst
 pub mod Kept
 pub mod Lookups
 pub mod Opened
-pub mod Places
+pub mod EntryIndices
 pub mod RunLines
 pub mod Served
 pub mod Settings

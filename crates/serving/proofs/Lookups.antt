@@ -6,59 +6,59 @@ use Rattle.host_types.specs.declared.fault.Fault.{Fault}
 use Rattle.host_types.specs.declared.fault.Fault.TheVariants.{BadTenant}
 use Rattle.host_types.specs.Tenant.{TenantPart}
 use Rattle.host_calls.specs.Calls.{IsValue, RefusesLookup}
-use Rattle.host_core.specs.declared.event.Event.{Event}
-use Rattle.host_core.specs.declared.event.Event.TheVariants.{HostLookup}
-use Rattle.host_core.specs.declared.event.Reply.{Reply}
-use Rattle.host_core.specs.declared.event.Reply.TheVariants.{Value, Refused}
+use Rattle.host_types.specs.declared.event.Event.{Event}
+use Rattle.host_types.specs.declared.event.Event.TheVariants.{HostLookup}
+use Rattle.host_core.specs.declared.reply.Reply.{Reply}
+use Rattle.host_core.specs.declared.reply.Reply.TheVariants.{Value, Refused}
 use Rattle.host_file.specs.declared.command.Command.{Command}
 use Rattle.host_file.specs.declared.command.Command.TheVariants.{Apply}
 use Rattle.engines.specs.Lines.{reply_lines}
 use Rattle.engines.specs.Replay.{is_refusal}
 use Rattle.serving.specs.Lookups.{AreLookedUp, IsAnswerIn, IsLookedUp, lookup_by, lookup_tellings, lookups_in}
-use Rattle.serving.specs.Told.{Telling, Answered, HasWritten}
-use Rattle.serving.proofs.Places.{at-mapped}
-use Rattle.serving.proofs.Tellings.{told-join, told-none, told-one}
+use Rattle.serving.specs.Report.{Telling, Answered, HasWritten}
+use Rattle.serving.proofs.EntryIndices.{at-mapped}
+use Rattle.serving.proofs.Tellings.{printed-join, printed-none, printed-one}
 
 -- lines were written, and with those of the lookups that are left they are those of all
-pub record AreToldUpTo (parts : List TenantPart) (all rest : List Event) (before after : Bool) (was is : Option (List ℕ)) : Type 0 where
-  pub told : List Telling
-  pub written : HasWritten told before after was is
-  pub follows : (answers : List Reply) → AreLookedUp parts rest answers → (replies : List Reply) × AreLookedUp parts all replies × (told ++ lookup_tellings rest answers ≡ lookup_tellings all replies)
+pub record ArePrintedUpTo (parts : List TenantPart) (all rest : List Event) (before after : Bool) (was is : Option (List ℕ)) : Type 0 where
+  pub printed : List Telling
+  pub written : HasWritten printed before after was is
+  pub follows : (answers : List Reply) → AreLookedUp parts rest answers → (replies : List Reply) × AreLookedUp parts all replies × (printed ++ lookup_tellings rest answers ≡ lookup_tellings all replies)
 
-pub lookups-none : (parts : List TenantPart) (all : List Event) (refused : Bool) (was : Option (List ℕ)) → AreToldUpTo parts all all refused refused was was
-lookups-none parts all refused was = record { told = []; written = told-none refused was; follows = λ answers looked. (answers, looked, refl) }
+pub lookups-none : (parts : List TenantPart) (all : List Event) (refused : Bool) (was : Option (List ℕ)) → ArePrintedUpTo parts all all refused refused was was
+lookups-none parts all refused was = record { printed = []; written = printed-none refused was; follows = λ answers looked. (answers, looked, refl) }
 
 -- one more line
 pub lookups-next : (parts : List TenantPart) (all rest later : List Event) (event : Event) (reply : Reply) (before mid_way after : Bool) (was half is : Option (List ℕ)) → rest ≡ event ∷ later
     → IsLookedUp parts event reply → after ≡ (mid_way || is_refusal reply) → Appends half is (reply_lines event 0 reply)
-    → AreToldUpTo parts all rest before mid_way was half → AreToldUpTo parts all later before after was is
+    → ArePrintedUpTo parts all rest before mid_way was half → ArePrintedUpTo parts all later before after was is
 lookups-next parts all rest later event reply before mid_way after was half is next answered noted more so_far = record {
-  told = so_far.told ++ Answered event 0 reply ∷ [];
-  written = told-join so_far.told (Answered event 0 reply ∷ []) before mid_way after was half is so_far.written (told-one (Answered event 0 reply) mid_way after half is noted more);
+  printed = so_far.printed ++ Answered event 0 reply ∷ [];
+  written = printed-join so_far.printed (Answered event 0 reply ∷ []) before mid_way after was half is so_far.written (printed-one (Answered event 0 reply) mid_way after half is noted more);
   follows = λ answers looked.
       let (replies, all_looked, same) = subst (λ events. (answers : List Reply) → AreLookedUp parts events answers
-      → (replies : List Reply) × AreLookedUp parts all replies × (so_far.told ++ lookup_tellings events answers ≡ lookup_tellings all replies)) next so_far.follows (reply ∷ answers) (answered, looked) in
-      (replies, all_looked, append_assoc so_far.told (Answered event 0 reply ∷ []) (lookup_tellings later answers) ∙ same);
+      → (replies : List Reply) × AreLookedUp parts all replies × (so_far.printed ++ lookup_tellings events answers ≡ lookup_tellings all replies)) next so_far.follows (reply ∷ answers) (answered, looked) in
+      (replies, all_looked, append_assoc so_far.printed (Answered event 0 reply ∷ []) (lookup_tellings later answers) ∙ same);
 }
 
 -- a command that looks nothing up
 pub lookups-on : (parts : List TenantPart) (all rest later : List Event) (before after : Bool) (was is : Option (List ℕ)) → rest ≡ later
-    → AreToldUpTo parts all rest before after was is → AreToldUpTo parts all later before after was is
-lookups-on parts all rest later before after was is same so_far = subst (λ events. AreToldUpTo parts all events before after was is) same so_far
+    → ArePrintedUpTo parts all rest before after was is → ArePrintedUpTo parts all later before after was is
+lookups-on parts all rest later before after was is same so_far = subst (λ events. ArePrintedUpTo parts all events before after was is) same so_far
 
 -- all of them
-pub lookups-all : (parts : List TenantPart) (all rest : List Event) (before after : Bool) (was is : Option (List ℕ)) → rest ≡ [] → AreToldUpTo parts all rest before after was is
+pub lookups-all : (parts : List TenantPart) (all rest : List Event) (before after : Bool) (was is : Option (List ℕ)) → rest ≡ [] → ArePrintedUpTo parts all rest before after was is
     → (answers : List Reply) × AreLookedUp parts all answers × HasWritten (lookup_tellings all answers) before after was is
 lookups-all parts all rest before after was is none so_far =
     let (replies, looked, same) = subst (λ events. (answers : List Reply) → AreLookedUp parts events answers
-    → (replies : List Reply) × AreLookedUp parts all replies × (so_far.told ++ lookup_tellings events answers ≡ lookup_tellings all replies)) none so_far.follows [] tt in
-    (replies, looked, subst (λ tellings. HasWritten tellings before after was is) (sym (append-nil so_far.told) ∙ same) so_far.written)
+    → (replies : List Reply) × AreLookedUp parts all replies × (so_far.printed ++ lookup_tellings events answers ≡ lookup_tellings all replies)) none so_far.follows [] tt in
+    (replies, looked, subst (λ tellings. HasWritten tellings before after was is) (sym (append-nil so_far.printed) ∙ same) so_far.written)
 
--- the lookups from a place on
-pub lookups-more : (commands : List Command) (place : ℕ) (command : Command) → place < length commands → command ≡ get_or commands place command
-    → lookups_in (drop place commands) ≡ lookup_by command ++ lookups_in (drop (place + 1) commands)
-lookups-more commands place command within is =
-    ap lookups_in (drop_more commands place command within) ∙ ap (λ c. lookup_by c ++ lookups_in (drop (place + 1) commands)) (sym is)
+-- the lookups from an index on
+pub lookups-more : (commands : List Command) (entry_index : ℕ) (command : Command) → entry_index < length commands → command ≡ get_or commands entry_index command
+    → lookups_in (drop entry_index commands) ≡ lookup_by command ++ lookups_in (drop (entry_index + 1) commands)
+lookups-more commands entry_index command within is =
+    ap lookups_in (drop_more commands entry_index command within) ∙ ap (λ c. lookup_by c ++ lookups_in (drop (entry_index + 1) commands)) (sym is)
 
 -- the answer by what was read
 answer-in : {V : Type 0} (bytes_of : V → List ℕ) (owned : TenantPart) (m key : ℕ) (value : Result V Fault) (reply : Reply)
@@ -76,27 +76,27 @@ looked-up f bytes_of plans tenant m key plan value reply within is refused same 
     subst (λ found. MatchOption found (reply ≡ Refused BadTenant) (λ owned. IsAnswerIn owned m key reply)) (sym (at-mapped f plans tenant plan within))
     (answer-in bytes_of (f (get_or plans tenant plan)) m key value reply is refused same)
 
--- the lookups from a place on, by what the command there looks up
-pub lookups-step : (commands : List Command) (place : ℕ) (command named : Command) (found : List Event) → place < length commands → command ≡ get_or commands place command
-    → command ≡ named → lookup_by named ≡ found → lookups_in (drop place commands) ≡ found ++ lookups_in (drop (place + 1) commands)
-lookups-step commands place command named found within is same finds =
-    lookups-more commands place command within is ∙ ap (λ c. lookup_by c ++ lookups_in (drop (place + 1) commands)) same
-    ∙ ap (λ events. events ++ lookups_in (drop (place + 1) commands)) finds
+-- the lookups from an index on, by what the command there looks up
+pub lookups-step : (commands : List Command) (entry_index : ℕ) (command named : Command) (found : List Event) → entry_index < length commands → command ≡ get_or commands entry_index command
+    → command ≡ named → lookup_by named ≡ found → lookups_in (drop entry_index commands) ≡ found ++ lookups_in (drop (entry_index + 1) commands)
+lookups-step commands entry_index command named found within is same finds =
+    lookups-more commands entry_index command within is ∙ ap (λ c. lookup_by c ++ lookups_in (drop (entry_index + 1) commands)) same
+    ∙ ap (λ events. events ++ lookups_in (drop (entry_index + 1) commands)) finds
 
--- one more line, of the command at a place, which looks a value up
-pub lookups-told : (parts found : List TenantPart) (commands : List Command) (place : ℕ) (command : Command) (event : Event) (reply : Reply) (before mid_way after : Bool) (was half is : Option (List ℕ))
-    → place < length commands → command ≡ get_or commands place command → command ≡ Apply event → found ≡ parts
+-- one more line, of the command at an index, which looks a value up
+pub lookups-printed : (parts found : List TenantPart) (commands : List Command) (entry_index : ℕ) (command : Command) (event : Event) (reply : Reply) (before mid_way after : Bool) (was half is : Option (List ℕ))
+    → entry_index < length commands → command ≡ get_or commands entry_index command → command ≡ Apply event → found ≡ parts
     → (lookup_by (Apply event) ≡ event ∷ []) × IsLookedUp found event reply → after ≡ (mid_way || is_refusal reply) → Appends half is (reply_lines event 0 reply)
-    → AreToldUpTo parts (lookups_in commands) (lookups_in (drop place commands)) before mid_way was half
-    → AreToldUpTo parts (lookups_in commands) (lookups_in (drop (place + 1) commands)) before after was is
-lookups-told parts found commands place command event reply before mid_way after was half is within at named same answered noted more so_far =
-    lookups-next parts (lookups_in commands) (lookups_in (drop place commands)) (lookups_in (drop (place + 1) commands)) event reply before mid_way after was half is
-    (lookups-step commands place command (Apply event) (event ∷ []) within at named answered.0)
+    → ArePrintedUpTo parts (lookups_in commands) (lookups_in (drop entry_index commands)) before mid_way was half
+    → ArePrintedUpTo parts (lookups_in commands) (lookups_in (drop (entry_index + 1) commands)) before after was is
+lookups-printed parts found commands entry_index command event reply before mid_way after was half is within at named same answered noted more so_far =
+    lookups-next parts (lookups_in commands) (lookups_in (drop entry_index commands)) (lookups_in (drop (entry_index + 1) commands)) event reply before mid_way after was half is
+    (lookups-step commands entry_index command (Apply event) (event ∷ []) within at named answered.0)
     (subst (λ parts. IsLookedUp parts event reply) same answered.1) noted more so_far
 
 -- none is left
-pub lookups-end : (commands : List Command) (place : ℕ) → length commands ≤ place → lookups_in (drop place commands) ≡ []
+pub lookups-end : (commands : List Command) (entry_index : ℕ) → length commands ≤ entry_index → lookups_in (drop entry_index commands) ≡ []
 lookups-end [] zero past = refl
-lookups-end [] (suc place) past = refl
+lookups-end [] (suc entry_index) past = refl
 lookups-end (command ∷ commands) zero past = absurd (omega (arith, past))
-lookups-end (command ∷ commands) (suc place) past = lookups-end commands place (omega (arith, past))
+lookups-end (command ∷ commands) (suc entry_index) past = lookups-end commands entry_index (omega (arith, past))

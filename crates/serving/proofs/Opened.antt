@@ -11,20 +11,20 @@ use Rattle.host_types.specs.declared.fault.Fault.TheVariants.{BadOption, BadTena
 use Rattle.host_types.specs.declared.options.Opt.{Opt}
 use Rattle.host_types.specs.OptionTable.{MayBe}
 use Rattle.page_table.specs.Limits.{shape_of}
-use Rattle.host_calls.specs.Calls.{RefusesNewMap, RefusesUpdate, TellsHave}
+use Rattle.host_calls.specs.Calls.{RefusesNewMap, RefusesUpdate, NamesHave}
 use Rattle.tenant_workers.specs.Calls.{memory_left}
 use Rattle.host_types.specs.Tenant.{TenantPart}
 use Rattle.verifier.specs.Verified.{Accepted}
 use Rattle.turn.specs.Seats.{SeatState, own_part}
 use Rattle.tenant_workers.specs.declared.plans.TenantPlan.{TenantPlan}
-use Rattle.host_core.specs.declared.event.Event.{Event}
-use Rattle.host_core.specs.declared.event.Event.TheVariants.{CreateMap, HostUpdate, Set}
-use Rattle.host_core.specs.HostView.{tenant_of}
+use Rattle.host_types.specs.declared.event.Event.{Event}
+use Rattle.host_types.specs.declared.event.Event.TheVariants.{CreateMap, HostUpdate, Set}
+use Rattle.host_types.specs.Events.{tenant_of}
 use Rattle.host_file.specs.declared.command.Command.TheVariants.{Apply, Finish, Run, Step, Visit}
 use Rattle.host_file.specs.declared.command.Command.{Command}
 use Rattle.serving.specs.AtFirst.{first_part}
 use Rattle.serving.specs.Opened.{AreOpenedFor, HaveOpened, Home, IsGiven, IsNewPlan, IsOpenedFor, IsStopped, RefusesGift, RefusesOpening, first_home, home_of}
-use Rattle.serving.proofs.Places.{at-mapped, each-at, past-mapped, split-at}
+use Rattle.serving.proofs.EntryIndices.{at-mapped, each-at, past-mapped, split-at}
 
 -- one more command
 opened-more : (t : ℕ) (commands : List Command) (command : Command) (old half new : Home) → AreOpenedFor t commands old half → IsOpenedFor t command half new
@@ -32,48 +32,48 @@ opened-more : (t : ℕ) (commands : List Command) (command : Command) (old half 
 opened-more t [] command old half new first one = (new, subst (λ home. IsOpenedFor t command home new) first one, refl)
 opened-more t (c ∷ commands) command old half new (between, here, rest) one = (between, here, opened-more t commands command between half new rest one)
 
--- a place that is there needs no default
-within-any : {X : Type 0} (xs : List X) (place : ℕ) (a b : X) → place < length xs → get_or xs place a ≡ get_or xs place b
-within-any [] place a b within = absurd (omega (arith, within))
+-- an index that is there needs no default
+within-any : {X : Type 0} (xs : List X) (entry_index : ℕ) (a b : X) → entry_index < length xs → get_or xs entry_index a ≡ get_or xs entry_index b
+within-any [] entry_index a b within = absurd (omega (arith, within))
 within-any (x ∷ xs) zero a b within = refl
-within-any (x ∷ xs) (suc place) a b within = within-any xs place a b (omega (arith, within))
+within-any (x ∷ xs) (suc entry_index) a b within = within-any xs entry_index a b (omega (arith, within))
 
--- what an event does for the tenant at a place, and for the others
-opened-one : (event : Event) (plans : List TenantPlan) (place : ℕ) (old plan : TenantPlan) (t : ℕ) (other : TenantPlan) → place < length plans → tenant_of event ≡ Some place
-    → IsGiven event (home_of (get_or plans place old)) (home_of plan) → ((t ≡ place) ⊎ (t ≢ place))
-    → IsOpenedFor t (Apply event) (home_of (get_or plans t other)) (home_of (get_or (set plans place plan) t other))
-opened-one event plans place old plan t other within named given (inl same) =
-    let was = ap home_of (within-any plans place old other within ∙ ap (λ i. get_or plans i other) (sym same)) in
-    let is = ap home_of (sym (get_or-set_at plans place t plan other same within)) in
+-- what an event does for the tenant at an index, and for the others
+opened-one : (event : Event) (plans : List TenantPlan) (entry_index : ℕ) (old plan : TenantPlan) (t : ℕ) (other : TenantPlan) → entry_index < length plans → tenant_of event ≡ Some entry_index
+    → IsGiven event (home_of (get_or plans entry_index old)) (home_of plan) → ((t ≡ entry_index) ⊎ (t ≢ entry_index))
+    → IsOpenedFor t (Apply event) (home_of (get_or plans t other)) (home_of (get_or (set plans entry_index plan) t other))
+opened-one event plans entry_index old plan t other within named given (inl same) =
+    let was = ap home_of (within-any plans entry_index old other within ∙ ap (λ i. get_or plans i other) (sym same)) in
+    let is = ap home_of (sym (get_or-set_at plans entry_index t plan other same within)) in
     ((λ names. subst₂ (IsGiven event) was is given), (λ others. absurd (others (named ∙ ap (λ i. Some i) (sym same)))))
-opened-one event plans place old plan t other within named given (inr differs) =
-    ((λ names. absurd (differs (ap (λ o. unwrap_or o 0) (sym names ∙ named)))), (λ others. ap home_of (get_or-set_other plans place t plan other differs)))
+opened-one event plans entry_index old plan t other within named given (inr differs) =
+    ((λ names. absurd (differs (ap (λ o. unwrap_or o 0) (sym names ∙ named)))), (λ others. ap home_of (get_or-set_other plans entry_index t plan other differs)))
 
-runs-one : (plans : List TenantPlan) (place : ℕ) (old plan : TenantPlan) (t : ℕ) (other : TenantPlan) → place < length plans
-    → plan.runs.items ≡ (get_or plans place old).runs.items → ((t ≡ place) ⊎ (t ≢ place)) → (get_or (set plans place plan) t other).runs.items ≡ (get_or plans t other).runs.items
-runs-one plans place old plan t other within kept (inl same) =
-    ap (λ p. p.runs.items) (get_or-set_at plans place t plan other same within) ∙ kept
-    ∙ ap (λ p. p.runs.items) (within-any plans place old other within ∙ ap (λ i. get_or plans i other) (sym same))
-runs-one plans place old plan t other within kept (inr differs) = ap (λ p. p.runs.items) (get_or-set_other plans place t plan other differs)
+runs-one : (plans : List TenantPlan) (entry_index : ℕ) (old plan : TenantPlan) (t : ℕ) (other : TenantPlan) → entry_index < length plans
+    → plan.runs.items ≡ (get_or plans entry_index old).runs.items → ((t ≡ entry_index) ⊎ (t ≢ entry_index)) → (get_or (set plans entry_index plan) t other).runs.items ≡ (get_or plans t other).runs.items
+runs-one plans entry_index old plan t other within kept (inl same) =
+    ap (λ p. p.runs.items) (get_or-set_at plans entry_index t plan other same within) ∙ kept
+    ∙ ap (λ p. p.runs.items) (within-any plans entry_index old other within ∙ ap (λ i. get_or plans i other) (sym same))
+runs-one plans entry_index old plan t other within kept (inr differs) = ap (λ p. p.runs.items) (get_or-set_other plans entry_index t plan other differs)
 
 chosen : {A B C D : Type 0} → (A × C) ⊎ (B × D) → C ⊎ D
 chosen (inl both) = inl both.1
 chosen (inr both) = inr both.1
 
-same-or-other : (t place : ℕ) → (t ≡ place) ⊎ (t ≢ place)
-same-or-other t place = chosen (eqb_tells t place)
+same-or-other : (t entry_index : ℕ) → (t ≡ entry_index) ⊎ (t ≢ entry_index)
+same-or-other t entry_index = chosen (eqb_tells t entry_index)
 
 none-some : (t : ℕ) → None ≡ Some t → ⊥
 none-some t same = absurd (omega (arith, ap (λ o. unwrap_or o (suc t)) same))
 
 -- an event was done for its tenant
-pub opened_given : (event : Event) (plans : List TenantPlan) (place : ℕ) (old plan : TenantPlan) → place < length plans → tenant_of event ≡ Some place
-    → plan.runs.items ≡ (get_or plans place old).runs.items → IsGiven event (home_of (get_or plans place old)) (home_of plan)
-    → HaveOpened (Apply event ∷ []) plans (set plans place plan)
-opened_given event plans place old plan within named kept given = record {
-  as_many = length-set plans place plan;
-  homes = λ t other there. (home_of (get_or (set plans place plan) t other), opened-one event plans place old plan t other within named given (same-or-other t place), refl);
-  runs = λ t other there. runs-one plans place old plan t other within kept (same-or-other t place);
+pub opened_given : (event : Event) (plans : List TenantPlan) (entry_index : ℕ) (old plan : TenantPlan) → entry_index < length plans → tenant_of event ≡ Some entry_index
+    → plan.runs.items ≡ (get_or plans entry_index old).runs.items → IsGiven event (home_of (get_or plans entry_index old)) (home_of plan)
+    → HaveOpened (Apply event ∷ []) plans (set plans entry_index plan)
+opened_given event plans entry_index old plan within named kept given = record {
+  as_many = length-set plans entry_index plan;
+  homes = λ t other there. (home_of (get_or (set plans entry_index plan) t other), opened-one event plans entry_index old plan t other within named given (same-or-other t entry_index), refl);
+  runs = λ t other there. runs-one plans entry_index old plan t other within kept (same-or-other t entry_index);
 }
 
 -- an event that names no tenant
@@ -88,7 +88,7 @@ opened_nobody event plans nobody = record {
 pub opened-none : (plans : List TenantPlan) → HaveOpened [] plans plans
 opened-none plans = record { as_many = refl; homes = λ t plan there. refl; runs = λ t plan there. refl }
 
--- commands, and one behind them
+-- commands, and one after them
 pub opened-next : (commands : List Command) (command : Command) (old half new : List TenantPlan) → HaveOpened commands old half → HaveOpened (command ∷ []) half new
     → HaveOpened (commands ++ command ∷ []) old new
 opened-next commands command old half new first one = record {
@@ -109,11 +109,11 @@ opened-nothing command plans none = record {
 }
 
 -- one more of the commands
-pub opened-upto : (commands : List Command) (place : ℕ) (command : Command) (old half new : List TenantPlan) → place < length commands → command ≡ get_or commands place command
-    → HaveOpened (take place commands) old half → HaveOpened (command ∷ []) half new → HaveOpened (take (place + 1) commands) old new
-opened-upto commands place command old half new within is first one =
-    subst (λ front. HaveOpened front old new) (ap (λ c. take place commands ++ c ∷ []) is ∙ sym (take_more commands place command within))
-    (opened-next (take place commands) command old half new first one)
+pub opened-upto : (commands : List Command) (entry_index : ℕ) (command : Command) (old half new : List TenantPlan) → entry_index < length commands → command ≡ get_or commands entry_index command
+    → HaveOpened (take entry_index commands) old half → HaveOpened (command ∷ []) half new → HaveOpened (take (entry_index + 1) commands) old new
+opened-upto commands entry_index command old half new within is first one =
+    subst (λ front. HaveOpened front old new) (ap (λ c. take entry_index commands ++ c ∷ []) is ∙ sym (take_more commands entry_index command within))
+    (opened-next (take entry_index commands) command old half new first one)
 
 abbrev home-by : TenantPart → List Accepted → Home
 home-by owned programs = record { part = owned; programs = programs }
@@ -130,17 +130,17 @@ opened-homes commands old new fresh opened =
     let was : t < length old = omega (arith, there, opened.as_many) in
     subst (λ home. AreOpenedFor t commands home (home_of (get_or new t plan))) (new-home (get_or old t plan) (fresh t plan was)) (opened.homes t plan was))
 
--- the command at a place was refused
-pub stopped-at : (commands : List Command) (place : ℕ) (command : Command) (event : Event) (fault : Fault) (old half : List TenantPlan)
-    → place < length commands → command ≡ get_or commands place command → command ≡ Apply event → All IsNewPlan old
-    → HaveOpened (take place commands) old half → RefusesOpening (map home_of half) event fault → IsStopped (length old) commands event fault
-stopped-at commands place command event fault old half within is names fresh opened refuses = record {
-  front = take place commands;
-  rest = drop (place + 1) commands;
-  stands = split-at commands place command within ∙ ap (λ c. take place commands ++ c ∷ drop (place + 1) commands) (sym is ∙ names);
+-- the command at an index was refused
+pub stopped-at : (commands : List Command) (entry_index : ℕ) (command : Command) (event : Event) (fault : Fault) (old half : List TenantPlan)
+    → entry_index < length commands → command ≡ get_or commands entry_index command → command ≡ Apply event → All IsNewPlan old
+    → HaveOpened (take entry_index commands) old half → RefusesOpening (map home_of half) event fault → IsStopped (length old) commands event fault
+stopped-at commands entry_index command event fault old half within is names fresh opened refuses = record {
+  front = take entry_index commands;
+  rest = drop (entry_index + 1) commands;
+  stands = split-at commands entry_index command within ∙ ap (λ c. take entry_index commands ++ c ∷ drop (entry_index + 1) commands) (sym is ∙ names);
   homes = map home_of half;
   as_many = length-map half home_of ∙ opened.as_many;
-  opened = opened-homes (take place commands) old half fresh opened;
+  opened = opened-homes (take entry_index commands) old half fresh opened;
   refused = refuses;
 }
 
@@ -152,32 +152,32 @@ refused_set (Err fault) homes opt value refuses = refuses
 
 -- why a map isn't made for a tenant, by what its seat found
 pub refused_map : {A : Type 0} (result : Result A Fault) (old : Home) (seat : SeatState) (tenant value_size entries : ℕ) (mergeable : Bool) → IfErr result (RefusesNewMap old.part (shape_of value_size entries))
-    → IfErr result (TellsHave (memory_left seat)) → OnErr result (own_part seat ≡ old.part)
+    → IfErr result (NamesHave (memory_left seat)) → OnErr result (own_part seat ≡ old.part)
     → IfErr result (RefusesGift (CreateMap tenant value_size entries mergeable) old)
-refused_map (Ok a) old seat tenant value_size entries mergeable refuses told kept = tt
-refused_map (Err fault) old seat tenant value_size entries mergeable refuses told kept =
-    (refuses, (memory_left seat, record { tenant = seat.view.first; known = kept; told = told }))
+refused_map (Ok a) old seat tenant value_size entries mergeable refuses printed kept = tt
+refused_map (Err fault) old seat tenant value_size entries mergeable refuses printed kept =
+    (refuses, (memory_left seat, record { tenant = seat.view.first; known = kept; printed = printed }))
 
 -- why a value isn't written for it
 pub refused_update : {A : Type 0} (result : Result A Fault) (old : Home) (seat : SeatState) (tenant map key : ℕ) (value : List ℕ) → IfErr result (RefusesUpdate old.part map key value)
-    → IfErr result (TellsHave (memory_left seat)) → OnErr result (own_part seat ≡ old.part) → IfErr result (RefusesGift (HostUpdate tenant map key value) old)
-refused_update (Ok a) old seat tenant map key value refuses told kept = tt
-refused_update (Err fault) old seat tenant map key value refuses told kept =
-    (refuses, (memory_left seat, record { tenant = seat.view.first; known = kept; told = told }))
+    → IfErr result (NamesHave (memory_left seat)) → OnErr result (own_part seat ≡ old.part) → IfErr result (RefusesGift (HostUpdate tenant map key value) old)
+refused_update (Ok a) old seat tenant map key value refuses printed kept = tt
+refused_update (Err fault) old seat tenant map key value refuses printed kept =
+    (refuses, (memory_left seat, record { tenant = seat.view.first; known = kept; printed = printed }))
 
 -- why an event isn't done for its tenant
-pub refused_gift : {A : Type 0} (result : Result A Fault) (event : Event) (plans : List TenantPlan) (place : ℕ) (plan : TenantPlan) → place < length plans → tenant_of event ≡ Some place
-    → IfErr result (RefusesGift event (home_of (get_or plans place plan))) → IfErr result (RefusesOpening (map home_of plans) event)
-refused_gift (Ok a) event plans place plan within named refuses = tt
-refused_gift (Err fault) event plans place plan within named refuses = rw (named, at-mapped home_of plans place plan within) refuses
+pub refused_gift : {A : Type 0} (result : Result A Fault) (event : Event) (plans : List TenantPlan) (entry_index : ℕ) (plan : TenantPlan) → entry_index < length plans → tenant_of event ≡ Some entry_index
+    → IfErr result (RefusesGift event (home_of (get_or plans entry_index plan))) → IfErr result (RefusesOpening (map home_of plans) event)
+refused_gift (Ok a) event plans entry_index plan within named refuses = tt
+refused_gift (Err fault) event plans entry_index plan within named refuses = rw (named, at-mapped home_of plans entry_index plan within) refuses
 
 -- there is no such tenant
-pub refused_nobody : (event : Event) (plans : List TenantPlan) (place : ℕ) → length plans ≤ place → tenant_of event ≡ Some place → RefusesOpening (map home_of plans) event BadTenant
-refused_nobody event plans place past named = rw (named, past-mapped home_of plans place past) refl
+pub refused_nobody : (event : Event) (plans : List TenantPlan) (entry_index : ℕ) → length plans ≤ entry_index → tenant_of event ≡ Some entry_index → RefusesOpening (map home_of plans) event BadTenant
+refused_nobody event plans entry_index past named = rw (named, past-mapped home_of plans entry_index past) refl
 
 -- all of the commands
-pub opened-whole : (commands : List Command) (place : ℕ) (old new : List TenantPlan) → length commands ≤ place → HaveOpened (take place commands) old new → HaveOpened commands old new
-opened-whole commands place old new past opened = subst (λ front. HaveOpened front old new) (take_all place commands past) opened
+pub opened-whole : (commands : List Command) (entry_index : ℕ) (old new : List TenantPlan) → length commands ≤ entry_index → HaveOpened (take entry_index commands) old new → HaveOpened commands old new
+opened-whole commands entry_index old new past opened = subst (λ front. HaveOpened front old new) (take_all entry_index commands past) opened
 
 -- a command that applies no event
 pub opened-else : (command : Command) (plans : List TenantPlan) → ((event : Event) → command ≡ Apply event → ⊥) → HaveOpened (command ∷ []) plans plans

@@ -4,9 +4,9 @@ use Rattle.std.specs.Prelude.{IfSome, slice_get}
 use Rattle.std.specs.Io.KnownBytes.{Appends, Keeps}
 use Rattle.std.proofs.lemmas.List.{length-map}
 use Rattle.host_types.specs.declared.fault.Fault.{Fault}
-use Rattle.host_core.specs.declared.event.Event.{Event}
-use Rattle.host_core.specs.declared.event.Reply.{Reply}
-use Rattle.host_core.specs.declared.event.Reply.TheVariants.{Refused}
+use Rattle.host_types.specs.declared.event.Event.{Event}
+use Rattle.host_core.specs.declared.reply.Reply.{Reply}
+use Rattle.host_core.specs.declared.reply.Reply.TheVariants.{Refused}
 use Rattle.host_file.specs.declared.command.Command.{Command}
 use Rattle.host_file.specs.declared.file.HostFile.{HostFile}
 use Rattle.host_file.specs.HostFile.{IsFileText, max_bytes}
@@ -22,13 +22,13 @@ use Rattle.serving.specs.Lookups.{AreLookedUp, lookup_tellings, lookups_in}
 use Rattle.serving.specs.Opened.{AreOpenedFor, HaveOpened, IsNewPlan, IsSettable, IsStopped, home_of}
 use Rattle.serving.specs.Prepared.{HaveRuns, runs_for, with_runs}
 use Rattle.serving.specs.RunLines.{all_run_tellings}
-use Rattle.serving.specs.Served.{AreNotServed, AreTold, IsServedSo, IsServedTenant, outcome_of, served, stopped, tellings_of, unserved}
-use Rattle.serving.specs.Told.{HasWritten, tell_refusal}
+use Rattle.serving.specs.Served.{AreNotServed, ArePrinted, IsServedSo, IsServedTenant, outcome_of, served, stopped, tellings_of, unserved}
+use Rattle.serving.specs.Report.{HasWritten, print_refusal}
 use Rattle.serving.proofs.Opened.{new-home}
-use Rattle.serving.proofs.Places.{each-at, mapped-twice}
-use Rattle.serving.proofs.Tellings.{told-join}
+use Rattle.serving.proofs.EntryIndices.{each-at, mapped-twice}
+use Rattle.serving.proofs.Tellings.{printed-join}
 
--- what is told of each of two lists is told of those at one place
+-- what is reported of each of two lists is reported of those at one index
 each-both : {X Y : Type 0} (f : X → Y) (R : Y → Y → Type 0) (xs ys : List X) (t : ℕ) (x y : X) → AreEach R (map f xs) (map f ys) → t < length ys
     → (t < length xs) × R (f (get_or xs t x)) (f (get_or ys t y))
 each-both f R [] [] t a b each within = absurd (omega (arith, within))
@@ -63,8 +63,8 @@ pub served-each : (commands : List Command) (first opened planned new : List Ten
 served-each commands first opened planned new fresh open_so run_so each =
     each-at outcome_of (IsServedTenant commands) new (λ t plan there.
     let both = each-both planned_by IsPlanServed planned new t plan plan each there in
-    let behind : t < length opened = omega (arith, both.0, run_so.as_many) in
-    let before : t < length first = omega (arith, behind, open_so.as_many) in
+    let following : t < length opened = omega (arith, both.0, run_so.as_many) in
+    let before : t < length first = omega (arith, following, open_so.as_many) in
     let new_plan = fresh t plan before in
     record {
       home = home_of (get_or opened t plan);
@@ -74,24 +74,24 @@ served-each commands first opened planned new fresh open_so run_so each =
       last = (get_or new t plan).seat;
       ends = refl;
       answered = answered-of (planned_by (get_or opened t plan)) (planned_by (get_or planned t plan)) (planned_by (get_or new t plan)) (runs_for t commands)
-          (no-runs (get_or opened t plan) (open_so.runs t plan before ∙ new_plan.runs)) (run_so.each t plan behind) both.1;
+          (no-runs (get_or opened t plan) (open_so.runs t plan before ∙ new_plan.runs)) (run_so.each t plan following) both.1;
     })
 
 -- lines of runs, and then of lookups
-pub told-both : (commands : List Command) (plans : List TenantPlan) (answers : List Reply) (half after : Bool) (status : ℕ) (was mid_way is : Option (List ℕ))
+pub printed-both : (commands : List Command) (plans : List TenantPlan) (answers : List Reply) (half after : Bool) (status : ℕ) (was mid_way is : Option (List ℕ))
     → HasWritten (all_run_tellings commands 0 (map (λ plan. plan.replies.items) plans)) false half was mid_way
     → AreLookedUp (map (λ plan. own_part plan.seat) plans) (lookups_in commands) answers → HasWritten (lookup_tellings (lookups_in commands) answers) half after mid_way is
-    → status ≡ (if after then 1 else 0) → AreTold commands (map outcome_of plans) status was is
-told-both commands plans answers half after status was mid_way is runs looked lookups status_is =
+    → status ≡ (if after then 1 else 0) → ArePrinted commands (map outcome_of plans) status was is
+printed-both commands plans answers half after status was mid_way is runs looked lookups status_is =
     let tellings = all_run_tellings commands 0 (map (λ plan. plan.replies.items) plans) in
-    let both = told-join tellings (lookup_tellings (lookups_in commands) answers) false half after was mid_way is runs lookups in
+    let both = printed-join tellings (lookup_tellings (lookups_in commands) answers) false half after was mid_way is runs lookups in
     let same = ap (λ replies. all_run_tellings commands 0 replies ++ lookup_tellings (lookups_in commands) answers) (sym (mapped-twice (λ outcome. outcome.replies) outcome_of plans)) in
-    let told = subst (λ tellings. HasWritten tellings false after was is) same both in
+    let printed = subst (λ tellings. HasWritten tellings false after was is) same both in
     record {
       answers = answers;
       looked_up = subst (λ parts. AreLookedUp parts (lookups_in commands) answers) (sym (mapped-twice (λ outcome. outcome.part) outcome_of plans)) looked;
-      noted = status_is ∙ ap (λ b. if b then 1 else 0) told.refused;
-      written = told.written;
+      noted = status_is ∙ ap (λ b. if b then 1 else 0) printed.refused;
+      written = printed.written;
     }
 
 one-most : (b : Bool) → (if b then 1 else 0) ≤ 1
@@ -102,29 +102,29 @@ one-most false = omega arith
 pub status_few : (file : HostFile) (status : ℕ) (was is : Option (List ℕ)) → IsServedSo file status was is → status ≤ 1
 status_few file status was is (unserved fault refuses one written) = omega (arith, one)
 status_few file status was is (stopped event fault why one written) = omega (arith, one)
-status_few file status was is (served outcomes settable many each told) = subst (λ s. s ≤ 1) (sym told.noted) (one-most (tell_refusal (tellings_of file.commands outcomes told.answers)))
+status_few file status was is (served outcomes settable many each printed) = subst (λ s. s ≤ 1) (sym printed.noted) (one-most (print_refusal (tellings_of file.commands outcomes printed.answers)))
 
--- the opening stopped, and that was told
+-- the opening stopped, and that was reported
 pub stopped-so : {E : Type 0} (result : Result ℕ E) (file : HostFile) (event : Event) (fault : Fault) (was is : Option (List ℕ)) → IsStopped file.tenants file.commands event fault
     → IfOk result (λ status. status ≡ 1) → OnOk result (Appends was is (reply_lines event 0 (Refused fault))) → IfOk result (λ status. IsServedSo file status was is)
 stopped-so (Ok status) file event fault was is why one written = stopped event fault why one written
 stopped-so (Err e) file event fault was is why one written = tt
 
--- all were served, and what came of them was told
+-- all were served, and what came of them was reported
 pub served-so : {E : Type 0} (result : Result ℕ E) (file : HostFile) (first opened planned new : List TenantPlan) (was is : Option (List ℕ)) → length first ≡ file.tenants → All IsSettable file.commands
     → All IsNewPlan first → HaveOpened file.commands first opened → HaveRuns file.commands opened planned → AreServed planned new
-    → IfOk result (λ status. AreTold file.commands (map outcome_of new) status was is) → IfOk result (λ status. IsServedSo file status was is)
-served-so (Ok status) file first opened planned new was is many settable fresh open_so run_so each told =
+    → IfOk result (λ status. ArePrinted file.commands (map outcome_of new) status was is) → IfOk result (λ status. IsServedSo file status was is)
+served-so (Ok status) file first opened planned new was is many settable fresh open_so run_so each printed =
     served (map outcome_of new) settable (length-map new outcome_of ∙ served-many planned new each ∙ run_so.as_many ∙ open_so.as_many ∙ many)
-    (served-each file.commands first opened planned new fresh open_so run_so each) told
-served-so (Err e) file first opened planned new was is many settable fresh open_so run_so each told = tt
+    (served-each file.commands first opened planned new fresh open_so run_so each) printed
+served-so (Err e) file first opened planned new was is many settable fresh open_so run_so each printed = tt
 
 -- the same, by the lists as they stand in the plan
 pub served-through : {E : Type 0} (result : Result ℕ E) (file : HostFile) (commands : List Command) (items first opened half planned new last beyond further : List TenantPlan) (count : ℕ) (was is : Option (List ℕ))
     → commands ≡ file.commands → length items ≡ file.tenants → All IsSettable commands → All IsNewPlan items → first ≡ items → length first ≡ count
     → HaveOpened commands first opened → half ≡ take count (opened ++ beyond) → HaveRuns commands half planned → AreServed (take count (planned ++ further)) new → last ≡ new
-    → IfOk result (λ status. AreTold commands (map outcome_of last) status was is) → IfOk result (λ status. IsServedSo file status was is)
-served-through result file commands items first opened half planned new last beyond further count was is same many settable fresh first_is counted open_so half_is run_so each last_is told =
+    → IfOk result (λ status. ArePrinted commands (map outcome_of last) status was is) → IfOk result (λ status. IsServedSo file status was is)
+served-through result file commands items first opened half planned new last beyond further count was is same many settable fresh first_is counted open_so half_is run_so each last_is printed =
     let opened_many : length opened ≡ count = open_so.as_many ∙ counted in
     let half_same = half_is ∙ take_at opened beyond count opened_many in
     let planned_many : length planned ≡ count = run_so.as_many ∙ ap length half_same ∙ opened_many in
@@ -132,12 +132,12 @@ served-through result file commands items first opened half planned new last bey
     (subst₂ (λ cs plans. HaveOpened cs plans opened) same first_is open_so)
     (subst₂ (λ cs plans. HaveRuns cs plans planned) same half_same run_so)
     (subst (λ plans. AreServed plans new) (take_at planned further count planned_many) each)
-    (subst₂ (λ cs plans. IfOk result (λ status. AreTold cs (map outcome_of plans) status was is)) same last_is told)
+    (subst₂ (λ cs plans. IfOk result (λ status. ArePrinted cs (map outcome_of plans) status was is)) same last_is printed)
 
 -- a result that is no error
 pub of-no_err : {A E P : Type 0} (result : Result A E) → is_err result ≡ false → OnOk result P → P
-of-no_err (Ok a) none told = told
-of-no_err (Err e) none told = absurd (true≢false none)
+of-no_err (Ok a) none printed = printed
+of-no_err (Err e) none printed = absurd (true≢false none)
 
 -- an output that kept what it took
 appends-kept : (was half is : Option (List ℕ)) (xs : List ℕ) → Keeps half is → Appends was half xs → Appends was is xs
@@ -149,8 +149,8 @@ appends-kept (Some known) (Some more) (Some all) xs kept appended = kept ∙ app
 served-kept : (file : HostFile) (was half is : Option (List ℕ)) (status : ℕ) → Keeps half is → IsServedSo file status was half → IsServedSo file status was is
 served-kept file was half is status kept (unserved fault refuses one written) = unserved fault refuses one (appends-kept was half is _ kept written)
 served-kept file was half is status kept (stopped event fault why one written) = stopped event fault why one (appends-kept was half is _ kept written)
-served-kept file was half is status kept (served outcomes settable many each told) =
-    served outcomes settable many each record { answers = told.answers; looked_up = told.looked_up; noted = told.noted; written = appends-kept was half is _ kept told.written }
+served-kept file was half is status kept (served outcomes settable many each printed) =
+    served outcomes settable many each record { answers = printed.answers; looked_up = printed.looked_up; noted = printed.noted; written = appends-kept was half is _ kept printed.written }
 
 -- the file that was read was served
 pub served-read : (read : Option (List ℕ)) (file : HostFile) (was half is : Option (List ℕ)) (status : ℕ)

@@ -11,10 +11,10 @@ use Rattle.host_types.specs.declared.options.Options.{Options}
 use Rattle.host_types.specs.OptionTable.{MayBe}
 use Rattle.host_types.specs.Unmerging.{MaySet, RefusesSet, with_option}
 use Rattle.page_table.specs.State.{MemoryState, new_memory, part}
-use Rattle.host_core.specs.declared.event.Event.{Event}
-use Rattle.host_core.specs.declared.event.Event.TheVariants.{Set, Unmerge, Counters}
-use Rattle.host_core.specs.declared.event.Event.TheVariants as happens
-use Rattle.host_core.specs.HostView.{tenant_of}
+use Rattle.host_types.specs.declared.event.Event.{Event}
+use Rattle.host_types.specs.declared.event.Event.TheVariants.{Set, Unmerge, Counters}
+use Rattle.host_types.specs.declared.event.Event.TheVariants as happens
+use Rattle.host_types.specs.Events.{tenant_of}
 use Rattle.host_file.specs.declared.command.Command.TheVariants.{Apply, Finish, Run, Step, Visit}
 use Rattle.host_file.specs.declared.command.Command.{Command}
 use Rattle.serving.specs.Opened.{IsSettable, options_after, options_set, with_options}

@@ -4,7 +4,7 @@ use Rattle.atomic_table.specs.Seated.{TableId}
 use Rattle.host_types.specs.Tenant.{TenantPart}
 use Rattle.turn.specs.Seats.{SeatState, IsIdle, own_part}
 
--- eight places without a map, and no open run
+-- eight entries without a map, and no open run
 abbrev pub first_part : TenantPart
 first_part = record { maps = replicate 8 None; reserve = 0; running = false; pins = replicate 2048 false }
 

@@ -4,4 +4,4 @@ pub mod Opened
 pub mod Prepared
 pub mod RunLines
 pub mod Served
-pub mod Told
+pub mod Report

@@ -3,13 +3,13 @@ use Rattle.std.specs.Prelude.{◌≡◌, ℕ, List, [], ◌∷◌, flat_map, Mat
 use Rattle.host_types.specs.declared.fault.Fault.TheVariants.{BadTenant}
 use Rattle.host_types.specs.Tenant.{TenantPart}
 use Rattle.host_calls.specs.Calls.{IsValue, RefusesLookup}
-use Rattle.host_core.specs.declared.event.Event.{Event}
-use Rattle.host_core.specs.declared.event.Event.TheVariants.{HostLookup}
-use Rattle.host_core.specs.declared.event.Reply.{Reply}
-use Rattle.host_core.specs.declared.event.Reply.TheVariants.{Value, Refused}
+use Rattle.host_types.specs.declared.event.Event.{Event}
+use Rattle.host_types.specs.declared.event.Event.TheVariants.{HostLookup}
+use Rattle.host_core.specs.declared.reply.Reply.{Reply}
+use Rattle.host_core.specs.declared.reply.Reply.TheVariants.{Value, Refused}
 use Rattle.host_file.specs.declared.command.Command.{Command}
 use Rattle.host_file.specs.declared.command.Command.TheVariants.{Apply}
-use Rattle.serving.specs.Told.{Telling, Answered}
+use Rattle.serving.specs.Report.{Telling, Answered}
 
 -- the event by which a command looks a value up
 abbrev pub lookup_by : Command → List Event
@@ -37,7 +37,7 @@ AreLookedUp parts [] [] = Unit {0}
 AreLookedUp parts (event ∷ events) (reply ∷ replies) = IsLookedUp parts event reply × AreLookedUp parts events replies
 AreLookedUp parts events replies = ⊥
 
--- what is told of them
+-- what is reported of them
 abbrev pub lookup_tellings : List Event → List Reply → List Telling
 lookup_tellings (event ∷ events) (reply ∷ replies) = Answered event 0 reply ∷ lookup_tellings events replies
 lookup_tellings events replies = []

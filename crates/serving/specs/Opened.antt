@@ -13,14 +13,14 @@ use Rattle.page_table.specs.Changes.{part_created}
 use Rattle.page_table.specs.Limits.{shape_of}
 use Rattle.page_table.specs.State.{MemoryState, free_number, part}
 use Rattle.map_helpers.specs.Updates.{part_updated}
-use Rattle.host_calls.specs.Calls.{FitsNewMap, FitsValue, RefusesNewMap, RefusesUpdate, TellsHave}
+use Rattle.host_calls.specs.Calls.{FitsNewMap, FitsValue, RefusesNewMap, RefusesUpdate, NamesHave}
 use Rattle.host_calls.specs.Programs.{RefusesProgram, subject_of}
 use Rattle.turn.specs.Seats.{SeatState, own_part}
 use Rattle.tenant_workers.specs.Calls.{HasChanged, HasMap}
 use Rattle.tenant_workers.specs.declared.plans.TenantPlan.{TenantPlan}
-use Rattle.host_core.specs.declared.event.Event.{Event}
-use Rattle.host_core.specs.declared.event.Event.TheVariants.{CreateMap, Load, HostUpdate, Set}
-use Rattle.host_core.specs.HostView.{tenant_of}
+use Rattle.host_types.specs.declared.event.Event.{Event}
+use Rattle.host_types.specs.declared.event.Event.TheVariants.{CreateMap, Load, HostUpdate, Set}
+use Rattle.host_types.specs.Events.{tenant_of}
 use Rattle.host_file.specs.declared.command.Command.{Command}
 use Rattle.host_file.specs.declared.command.Command.TheVariants.{Apply}
 use Rattle.serving.specs.AtFirst.{first_part}
@@ -72,11 +72,11 @@ pub record HaveOpened (commands : List Command) (old new : List TenantPlan) : Ty
   pub homes : (t : ℕ) (plan : TenantPlan) → t < length old → AreOpenedFor t commands (home_of (get_or old t plan)) (home_of (get_or new t plan))
   pub runs : (t : ℕ) (plan : TenantPlan) → t < length old → (get_or new t plan).runs.items ≡ (get_or old t plan).runs.items
 
--- The memory in which a tenant was refused, where it had this part: missing frames are told by what could be had of it.
+-- The memory in which a tenant was refused, where it had this part: missing frames are reported by what could be had of it.
 pub record IsFoundIn (owned : TenantPart) (fault : Fault) (memory : MemoryState) : Type 0 where
   pub tenant : ℕ
   pub known : part memory tenant ≡ owned
-  pub told : TellsHave memory fault
+  pub printed : NamesHave memory fault
 
 -- why an event isn't done for its tenant
 abbrev pub RefusesGift : Event → Home → Fault → Type 0

@@ -9,9 +9,9 @@ use Rattle.turn.specs.Seats.{SeatState, own_part}
 use Rattle.tenant_runs.specs.declared.driving.RunReply.{RunReply}
 use Rattle.tenant_workers.specs.Plans.{AreAnswered}
 use Rattle.tenant_workers.specs.declared.plans.TenantPlan.{TenantPlan}
-use Rattle.host_core.specs.declared.event.Event.{Event}
-use Rattle.host_core.specs.declared.event.Reply.{Reply}
-use Rattle.host_core.specs.declared.event.Reply.TheVariants.{Refused}
+use Rattle.host_types.specs.declared.event.Event.{Event}
+use Rattle.host_core.specs.declared.reply.Reply.{Reply}
+use Rattle.host_core.specs.declared.reply.Reply.TheVariants.{Refused}
 use Rattle.host_file.specs.declared.command.Command.{Command}
 use Rattle.host_file.specs.declared.file.HostFile.{HostFile}
 use Rattle.host_file.specs.HostFile.{IsFileText}
@@ -22,7 +22,7 @@ use Rattle.serving.specs.Lookups.{AreLookedUp, lookup_tellings, lookups_in}
 use Rattle.serving.specs.Opened.{AreOpenedFor, Home, IsSettable, IsStopped, first_home}
 use Rattle.serving.specs.Prepared.{runs_for}
 use Rattle.serving.specs.RunLines.{all_run_tellings}
-use Rattle.serving.specs.Told.{Telling, all_told, tell_refusal}
+use Rattle.serving.specs.Report.{Telling, all_printed, print_refusal}
 
 -- the bytes are no host file, or one that asks for what isn't served
 abbrev pub AreNotServed : List ℕ → Type 0
@@ -47,20 +47,20 @@ pub record IsServedTenant (commands : List Command) (t : ℕ) (outcome : TenantO
   pub ends : own_part last ≡ outcome.part
   pub answered : AreAnswered home.programs (runs_for t commands) first outcome.replies last
 
--- what is told of them: of each run by tenant and in order, then of each lookup in the file's order
+-- what is reported of them: of each run by tenant and in order, then of each lookup in the file's order
 abbrev pub tellings_of : List Command → List TenantOutcome → List Reply → List Telling
 tellings_of commands outcomes answers =
     all_run_tellings commands 0 (map (λ outcome. outcome.replies) outcomes) ++ lookup_tellings (lookups_in commands) answers
 
 -- The lookups were answered from the tenants' parts, all was written, and the status says whether a refusal is
 -- among it.
-pub record AreTold (commands : List Command) (outcomes : List TenantOutcome) (status : ℕ) (old new : Option (List ℕ)) : Type 0 where
+pub record ArePrinted (commands : List Command) (outcomes : List TenantOutcome) (status : ℕ) (old new : Option (List ℕ)) : Type 0 where
   pub answers : List Reply
   pub looked_up : AreLookedUp (map (λ outcome. outcome.part) outcomes) (lookups_in commands) answers
-  pub noted : status ≡ if tell_refusal (tellings_of commands outcomes answers) then 1 else 0
-  pub written : Appends old new (all_told (tellings_of commands outcomes answers))
+  pub noted : status ≡ if print_refusal (tellings_of commands outcomes answers) then 1 else 0
+  pub written : Appends old new (all_printed (tellings_of commands outcomes answers))
 
--- A status and what an output took tell how a file was served: the refusal of the memory, or of its threads where
+-- A status and what an output took say how a file was served: the refusal of the memory, or of its threads where
 -- memory ran out; the first refusal before a thread starts; or, where none was refused, what came of each tenant.
 pub data IsServedSo (file : HostFile) (status : ℕ) (old new : Option (List ℕ)) : Type 0 where
   unserved : (fault : Fault) → RefusesMemory file.frames file.tenants file.options fault → status ≡ 1
@@ -68,4 +68,4 @@ pub data IsServedSo (file : HostFile) (status : ℕ) (old new : Option (List ℕ
   stopped : (event : Event) (fault : Fault) → IsStopped file.tenants file.commands event fault → status ≡ 1
       → Appends old new (reply_lines event 0 (Refused fault)) → IsServedSo file status old new
   served : (outcomes : List TenantOutcome) → All IsSettable file.commands → length outcomes ≡ file.tenants → ((t : ℕ) → IfSome (slice_get outcomes t) (IsServedTenant file.commands t))
-      → AreTold file.commands outcomes status old new → IsServedSo file status old new
+      → ArePrinted file.commands outcomes status old new → IsServedSo file status old new

@@ -2,16 +2,16 @@
 
 ghost use Rattle.std.specs.Prelude.{◌≡◌, List, [], ◌∷◌, IfErr, IfOk, MatchOption, MatchResult, OnOk, map};
 ghost use Rattle.host_file.specs.Faults.{IsBad};
-ghost use Rattle.host_core.specs.declared.event.Reply.{Reply};
-ghost use Rattle.host_core.specs.declared.event.Reply.TheVariants as reply;
+ghost use Rattle.host_core.specs.declared.reply.Reply.{Reply};
+ghost use Rattle.host_core.specs.declared.reply.Reply.TheVariants as reply;
 ghost use Rattle.host_file.specs.declared.command.Command.TheVariants.{Apply};
 ghost use Rattle.turn.specs.Seats.{own_part};
 ghost use Rattle.serving.specs.Lookups.{AreLookedUp, IsLookedUp, lookup_by, lookup_tellings, lookups_in};
 ghost use Rattle.serving.specs.RunLines.{all_run_tellings, beginning_for, beginnings_for, run_tellings, whole_reply};
-ghost use Rattle.serving.specs.Served.{AreTold, outcome_of};
-ghost use Rattle.serving.specs.Told.{HasWritten};
+ghost use Rattle.serving.specs.Served.{ArePrinted, outcome_of};
+ghost use Rattle.serving.specs.Report.{HasWritten};
 
-use crate::telling::Told;
+use crate::report::Report;
 use host_core::{Bytes, Event, Reply};
 use host_file::{Command, FileFault};
 use host_types::Fault;
@@ -23,55 +23,70 @@ use tenant_workers::TenantPlan;
 
 /// Writes what came of each tenant's plan: what its runs were answered, and then the values that are looked up.
 /// Answers the status.
-pub(crate) fn tell_served<W: Write, E: Write>(
+pub(crate) fn print_served<W: Write, E: Write>(
     rt: &impl Wait,
     alloc: Global,
     plans: &mut [TenantPlan<'_>],
     commands: &[Command],
     writer: &mut W,
-    words: &mut E,
+    diagnostics: &mut E,
 ) -> Result<u8, FileFault>
-    ensures told { IfOk result (λ status. AreTold commands.now (map outcome_of plans.old) status (W.contents writer.old) (W.contents writer.new)) }
+    ensures printed { IfOk result (λ status. ArePrinted commands.now (map outcome_of plans.old) status (W.contents writer.old) (W.contents writer.new)) }
     ensures bad { IfErr result (λ fault. ¬ IsBad fault) }
 {
-    let mut told = Told {
+    let mut printed = Report {
         alloc,
         has_refused: false,
     };
-    tell_runs(plans, commands, &mut told, writer, words)?;
-    tell_lookups(rt, alloc, plans, commands, &mut told, writer, words)?;
-    Ok(u8::from(told.has_refused))
+    print_runs(plans, commands, &mut printed, writer, diagnostics)?;
+    print_lookups(
+        rt,
+        alloc,
+        plans,
+        commands,
+        &mut printed,
+        writer,
+        diagnostics,
+    )?;
+    Ok(u8::from(printed.has_refused))
 }
 
 /// Writes what each run was answered, by tenant and within a tenant in order.
-fn tell_runs<W: Write, E: Write>(
+fn print_runs<W: Write, E: Write>(
     plans: &[TenantPlan<'_>],
     commands: &[Command],
-    told: &mut Told,
+    printed: &mut Report,
     writer: &mut W,
-    words: &mut E,
+    diagnostics: &mut E,
 ) -> Result<(), FileFault>
-    ensures told { OnOk result (HasWritten (all_run_tellings commands.now 0 (map (λ plan. plan.replies.items) plans.now))
-        told.old.has_refused told.new.has_refused (W.contents writer.old) (W.contents writer.new)) }
+    ensures printed { OnOk result (HasWritten (all_run_tellings commands.now 0 (map (λ plan. plan.replies.items) plans.now))
+        printed.old.has_refused printed.new.has_refused (W.contents writer.old) (W.contents writer.new)) }
     ensures bad { IfErr result (λ fault. ¬ IsBad fault) }
 {
     for (tenant, plan) in plans.iter().enumerate() {
-        tell_tenant(tenant, &plan.replies, commands, told, writer, words)?;
+        print_tenant(
+            tenant,
+            &plan.replies,
+            commands,
+            printed,
+            writer,
+            diagnostics,
+        )?;
     }
     Ok(())
 }
 
 /// Writes what each run of a tenant was answered. Those that began are counted from 0.
-fn tell_tenant<W: Write, E: Write>(
+fn print_tenant<W: Write, E: Write>(
     tenant: usize,
     replies: &[Result<RunReply, Fault>],
     commands: &[Command],
-    told: &mut Told,
+    printed: &mut Report,
     writer: &mut W,
-    words: &mut E,
+    diagnostics: &mut E,
 ) -> Result<(), FileFault>
-    ensures told { OnOk result (HasWritten (run_tellings (beginnings_for tenant commands.now) replies.now 0)
-        told.old.has_refused told.new.has_refused (W.contents writer.old) (W.contents writer.new)) }
+    ensures printed { OnOk result (HasWritten (run_tellings (beginnings_for tenant commands.now) replies.now 0)
+        printed.old.has_refused printed.new.has_refused (W.contents writer.old) (W.contents writer.new)) }
     ensures bad { IfErr result (λ fault. ¬ IsBad fault) }
 {
     let mut replies = replies.iter();
@@ -83,7 +98,7 @@ fn tell_tenant<W: Write, E: Write>(
         let Some(answer) = replies.next() else {
             return Ok(());
         };
-        told.tell(writer, words, number, event, begun, &reply_of(answer))?;
+        printed.print(writer, diagnostics, number, event, begun, &reply_of(answer))?;
         begun = begun.saturating_add(u64::from(answer.is_ok()));
     }
     Ok(())
@@ -116,18 +131,18 @@ fn reply_of(answer: &Result<RunReply, Fault>) -> Reply
 }
 
 /// Writes each value that is looked up, in the file's order.
-fn tell_lookups<W: Write, E: Write>(
+fn print_lookups<W: Write, E: Write>(
     rt: &impl Wait,
     alloc: Global,
     plans: &mut [TenantPlan<'_>],
     commands: &[Command],
-    told: &mut Told,
+    printed: &mut Report,
     writer: &mut W,
-    words: &mut E,
+    diagnostics: &mut E,
 ) -> Result<(), FileFault>
-    ensures told { OnOk result ((answers : List Reply) × AreLookedUp (map (λ plan. own_part plan.seat) plans.old) (lookups_in commands.now) answers
+    ensures printed { OnOk result ((answers : List Reply) × AreLookedUp (map (λ plan. own_part plan.seat) plans.old) (lookups_in commands.now) answers
         × HasWritten (lookup_tellings (lookups_in commands.now) answers)
-        told.old.has_refused told.new.has_refused (W.contents writer.old) (W.contents writer.new)) }
+        printed.old.has_refused printed.new.has_refused (W.contents writer.old) (W.contents writer.new)) }
     ensures bad { IfErr result (λ fault. ¬ IsBad fault) }
 {
     for (number, command) in commands.iter().enumerate() {
@@ -135,7 +150,7 @@ fn tell_lookups<W: Write, E: Write>(
             continue;
         };
         if let Some(reply) = looked_up(rt, alloc, plans, event) {
-            told.tell(writer, words, number, event, 0, &reply)?;
+            printed.print(writer, diagnostics, number, event, 0, &reply)?;
         }
     }
     Ok(())
@@ -155,11 +170,11 @@ fn looked_up(
     let Event::HostLookup { tenant, map, key } = event else {
         return None;
     };
-    let place = *tenant as usize;
-    if place >= plans.len() {
+    let entry_index = *tenant as usize;
+    if entry_index >= plans.len() {
         return Some(Reply::Refused(Fault::BadTenant));
     }
-    let plan = &mut plans[place];
+    let plan = &mut plans[entry_index];
     Some(value_reply(plan.shared.read(rt, alloc, &mut plan.seat, *map, *key)))
 }
 

@@ -12,11 +12,11 @@ ghost use Rattle.serving.specs.Prepared.{visits_in};
 ghost use Rattle.serving.specs.Opened.{IsNewPlan};
 ghost use Rattle.serving.specs.Served.{AreNotServed, IsServedSo};
 
-use crate::closing::tell_served;
-use crate::house::{House, open_house, plans_of};
+use crate::closing::print_served;
 use crate::opening::open_all;
+use crate::report::print_stop;
 use crate::runs::{add_runs, visits_of};
-use crate::telling::tell_stop;
+use crate::shared_host::{SharedHost, open_host, plans_of};
 use engines::{file_from, refuse, written};
 use host_file::{FileFault, HostFile, require_served};
 use std::alloc::{AllocError, Global};
@@ -38,19 +38,19 @@ pub fn serve_file<T: Threads + Wait + Sync, R: Read, W: Write, E: Write, G: Gate
     alloc: Global,
     reader: &mut R,
     writer: &mut W,
-    words: &mut E,
+    diagnostics: &mut E,
     gate: &G,
 ) -> Result<u8, FileFault>
     ensures status { IfOk result (λ status. status ≤ 1) }
     ensures served { IfOk result (λ status. IfSome (R.remaining reader.old) (λ bytes.
         (length bytes ≤ max_bytes) × ((file : HostFile) × IsFileText bytes file × All (IsServedCommand file.tenants) file.commands
         × IsServedSo file status (W.contents writer.old) (W.contents writer.new)))) }
-    ensures bad { IfErr result (λ fault. IsBad fault → (writer.new ≡ writer.old) × (words.new ≡ words.old)) }
+    ensures bad { IfErr result (λ fault. IsBad fault → (writer.new ≡ writer.old) × (diagnostics.new ≡ diagnostics.old)) }
     ensures no_file { IfErr result (λ fault. IsBad fault → IfSome (R.remaining reader.old) AreNotServed) }
 {
     let file = file_from(alloc, reader)?;
     require_served(&file)?;
-    let status = serve_document(rt, alloc, &file, writer, words, gate);
+    let status = serve_document(rt, alloc, &file, writer, diagnostics, gate);
     let flushed = writer.flush();
     let status = status?;
     written(flushed)?;
@@ -63,41 +63,41 @@ fn serve_document<T: Threads + Wait + Sync, W: Write, E: Write, G: Gate + Sync>(
     alloc: Global,
     file: &HostFile,
     writer: &mut W,
-    words: &mut E,
+    diagnostics: &mut E,
     gate: &G,
 ) -> Result<u8, FileFault>
     ensures served { IfOk result (λ status. IsServedSo file.now status (W.contents writer.old) (W.contents writer.new)) }
     ensures bad { IfErr result (λ fault. ¬ IsBad fault) }
 {
-    match open_house(alloc, file) {
-        Ok(house) => serve_house(rt, alloc, house, file, writer, words, gate),
+    match open_host(alloc, file) {
+        Ok(shared_host) => serve_host(rt, alloc, shared_host, file, writer, diagnostics, gate),
         Err(fault) => {
-            refuse(file, fault, writer, words)?;
+            refuse(file, fault, writer, diagnostics)?;
             Ok(1)
         }
     }
 }
 
 /// Serves a host file by a new memory.
-fn serve_house<T: Threads + Wait + Sync, W: Write, E: Write, G: Gate + Sync>(
+fn serve_host<T: Threads + Wait + Sync, W: Write, E: Write, G: Gate + Sync>(
     rt: &T,
     alloc: Global,
-    house: House,
+    shared_host: SharedHost,
     file: &HostFile,
     writer: &mut W,
-    words: &mut E,
+    diagnostics: &mut E,
     gate: &G,
 ) -> Result<u8, FileFault>
-    requires count { length house.seats.items ≡ file.now.tenants }
+    requires count { length shared_host.seats.items ≡ file.now.tenants }
     requires limits { AreLimits file.now.frames file.now.tenants × AreOptions file.now.options }
     ensures served { IfOk result (λ status. IsServedSo file.now status (W.contents writer.old) (W.contents writer.new)) }
     ensures bad { IfErr result (λ fault. ¬ IsBad fault) }
 {
-    let House {
+    let SharedHost {
         shared,
         seats,
         scanner,
-    } = house;
+    } = shared_host;
     let Ok(tenants) = plans_of(alloc, &shared, seats) else {
         return Err(FileFault::OutOfMemory(AllocError));
     };
@@ -109,7 +109,16 @@ fn serve_house<T: Threads + Wait + Sync, W: Write, E: Write, G: Gate + Sync>(
             visits: visits_of(file.commands.as_slice(), file.options.pages_to_scan),
         },
     };
-    serve_plan(rt, alloc, &shared, &mut plan, file, writer, words, gate)
+    serve_plan(
+        rt,
+        alloc,
+        &shared,
+        &mut plan,
+        file,
+        writer,
+        diagnostics,
+        gate,
+    )
 }
 
 /// Serves a host file by the plans of its tenants.
@@ -120,7 +129,7 @@ fn serve_plan<T: Threads + Wait + Sync, W: Write, E: Write, G: Gate + Sync>(
     plan: &mut Plan<'_>,
     file: &HostFile,
     writer: &mut W,
-    words: &mut E,
+    diagnostics: &mut E,
     gate: &G,
 ) -> Result<u8, FileFault>
     requires own { All (IsFor shared.now) plan.old.tenants.items }
@@ -134,14 +143,14 @@ fn serve_plan<T: Threads + Wait + Sync, W: Write, E: Write, G: Gate + Sync>(
 {
     let commands = file.commands.as_slice();
     if let Err(stop) = open_all(rt, alloc, shared, &mut plan.tenants, commands) {
-        return tell_stop(alloc, &stop, commands, writer, words);
+        return print_stop(alloc, &stop, commands, writer, diagnostics);
     }
     if add_runs(alloc, shared, &mut plan.tenants, commands).is_err() {
         return Err(FileFault::OutOfMemory(AllocError));
     }
     if let Err(fault) = serve(rt, alloc, shared, plan, gate) {
-        refuse(file, fault, writer, words)?;
+        refuse(file, fault, writer, diagnostics)?;
         return Ok(1);
     }
-    tell_served(rt, alloc, &mut plan.tenants, commands, writer, words)
+    print_served(rt, alloc, &mut plan.tenants, commands, writer, diagnostics)
 }

@@ -4,9 +4,9 @@
 
 mod closing;
 mod file;
-mod house;
 mod opening;
+mod report;
 mod runs;
-mod telling;
+mod shared_host;
 
 pub use file::serve_file;

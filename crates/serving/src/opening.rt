@@ -78,11 +78,11 @@ fn apply(
     let Some(tenant) = event.tenant() else {
         return Ok(());
     };
-    let place = tenant as usize;
-    if place >= plans.len() {
+    let entry_index = tenant as usize;
+    if entry_index >= plans.len() {
         return Err(Fault::BadTenant);
     }
-    apply_for(rt, alloc, &mut plans[place], event)
+    apply_for(rt, alloc, &mut plans[entry_index], event)
 }
 
 /// Whether an option may be set before a thread starts: whenever it can have the value.

@@ -49,11 +49,11 @@ fn add_run(
     else {
         return Ok(());
     };
-    let place = *tenant as usize;
-    if place >= plans.len() {
+    let entry_index = *tenant as usize;
+    if entry_index >= plans.len() {
         return Ok(());
     }
-    plan_run(alloc, &mut plans[place], *program, context.as_slice())
+    plan_run(alloc, &mut plans[entry_index], *program, context.as_slice())
 }
 
 /// Adds a run to a tenant's plan.

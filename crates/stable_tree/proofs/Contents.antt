@@ -13,20 +13,20 @@ use Rattle.tree_shape.specs.Shape.{in_order, height_at}
 use Rattle.std.proofs.Math.Seq.{get_or-append_seam}
 use Rattle.tree_shape.specs.Changes.{found, entered, tree_without}
 use Rattle.tree_shape.specs.Searches.{order_to, AreFramed, IsSearched, IsSearchSound}
-use Rattle.tree_shape.proofs.Order.{IsBefore, IsBehind, IsAligned, IsBetween, between, entered-between}
+use Rattle.tree_shape.proofs.Order.{IsBefore, IsFollowing, IsAligned, IsBetween, between, entered-between}
 use Rattle.tree_shape.proofs.Ascending.{ascending-aligned}
 use Rattle.tree_shape.proofs.Leaving.{IsLeaving, leaving, tree_without-leaving}
 use Rattle.tree_shape.proofs.Bound.{height-few}
 use Rattle.stable_tree.specs.declared.store.Store.{Store}
 use Rattle.stable_tree.specs.Digits.{digits}
 use Rattle.stable_tree.specs.Groups.{IsSorted, IsCutAt, content, is_there}
-use Rattle.stable_tree.specs.Places.{walk, frames_at, chain_at, used, IsWholeStore, IsHead, tree_in, heads_in, chains_in}
+use Rattle.stable_tree.specs.Slots.{walk, frames_at, chain_at, used, IsWholeStore, IsHead, tree_in, heads_in, chains_in}
 use Rattle.stable_tree.proofs.Digits.{below-digits}
 use Rattle.stable_tree.proofs.Sorting.{first-there}
 use Rattle.stable_tree.proofs.Walks.{stands}
 use Rattle.stable_tree.proofs.Trees.{levels-few, framed-all}
 use Rattle.stable_tree.proofs.Hanging.{heads-used, heads-few}
-use Rattle.stable_tree.proofs.Placing.{place-inside}
+use Rattle.stable_tree.proofs.Numbering.{slot-inside}
 
 first-of : (n : ℕ) (frames nexts : List ℕ) (at : ℕ) → 1 ≤ n → slice_index_or (frames_at frames (walk n nexts at)) 0 0 ≡ slice_index_or frames at 0
 unfolding walk
@@ -78,7 +78,7 @@ module _ (pages : List (List ℕ)) (store : Store) (free : List ℕ) (whole : Is
       framed-all pages store.frames.items (tree_in store) (λ i d less. (
         (let one = stands heads i d less in
             let two = heads-used (slice_index_or heads i d) store.nexts.items store.sizes.items heads whole.hung.filled in
-            let inside = place-inside (used store.nexts.items store.sizes.items heads) free (length store.nodes.items) (slice_index_or heads i d) whole.hung.shared (omega (arith, one, two)) in
+            let inside = slot-inside (used store.nexts.items store.sizes.items heads) free (length store.nodes.items) (slice_index_or heads i d) whole.hung.shared (omega (arith, one, two)) in
             let size = whole.hung.framed in
             omega (arith, inside, size)),
         (let there = first-there pages (chains_in store) i sorted (omega (arith, long, less)) in let same = head-content i d less in omega (arith, there, same)),
@@ -101,7 +101,7 @@ module _ (pages : List (List ℕ)) (store : Store) (free : List ℕ) (whole : Is
 
     -- where the smaller contents end
     cut : (earlier rest : List ℕ) → heads ≡ earlier ++ rest → All (IsBefore stand) earlier → All (λ p. is_lt (stand p) ≡ false) rest → IsCutAt pages (page_at pages frame) (chains_in store) (length earlier)
-    cut earlier rest is before behind =
+    cut earlier rest is before following =
         let all = ap length is in
         let size = length-append earlier rest in
         record {
@@ -110,10 +110,10 @@ module _ (pages : List (List ℕ)) (store : Store) (free : List ℕ) (whole : Is
               let e = ap (page_at pages) (head-content i 0 (omega (arith, all, size, less))) in
               let f = ap (λ xs. slice_index_or xs i 0) is ∙ get_or_append_left earlier rest 0 i less in
               rw e (rw f (ap is_lt (before i 0 less)));
-          behind = λ i ge less.
+          following = λ i ge less.
               let e = ap (page_at pages) (head-content i 0 (omega (arith, long, less))) in
               let f = ap (λ xs. slice_index_or xs i 0) is ∙ get_or-append_right earlier rest (length earlier) i 0 refl ge in
-              rw e (rw f (behind (i - length earlier) 0 (omega (arith, long, less, all, size, ge))));
+              rw e (rw f (following (i - length earlier) 0 (omega (arith, long, less, all, size, ge))));
         }
 
     there-at : (k at : ℕ) → k < length heads → slice_index_or heads k 0 ≡ at → stand at ≡ Equal → is_there pages (page_at pages frame) (chains_in store) k ≡ true
@@ -135,7 +135,7 @@ module _ (pages : List (List ℕ)) (store : Store) (free : List ℕ) (whole : Is
     found-here at is = by_leaving (tree_without-leaving stand at (tree_in store) whole-aligned is)
       where
         by_leaving : IsLeaving stand at heads (in_order (tree_without stand (tree_in store))) → IsHere at
-        by_leaving (leaving earlier later before behind equal was now) =
+        by_leaving (leaving earlier later before following equal was now) =
             let seam : slice_index_or heads (length earlier) 0 ≡ at = ap (λ xs. slice_index_or xs (length earlier) 0) was ∙ get_or-append_seam earlier at later 0 in
             let size = length-append earlier (at ∷ later) in
             let all = ap length was in
@@ -143,7 +143,7 @@ module _ (pages : List (List ℕ)) (store : Store) (free : List ℕ) (whole : Is
             record {
               head = record { earlier = earlier; later = later; is = was };
               cut = cut earlier (at ∷ later) was before
-                  (All-cons (λ p. is_lt (stand p) ≡ false) at later (ap is_lt equal) (All-weaker (IsBehind stand) (λ p. is_lt (stand p) ≡ false) (λ p e. not-less (stand p) e) later behind));
+                  (All-cons (λ p. is_lt (stand p) ≡ false) at later (ap is_lt equal) (All-weaker (IsFollowing stand) (λ p. is_lt (stand p) ≡ false) (λ p e. not-less (stand p) e) later following));
               there = there-at (length earlier) at less seam equal;
               inside = omega (arith, long, less);
               chain = get_or-map g heads (length earlier) 0 [] less ∙ ap g seam;
@@ -173,7 +173,7 @@ module _ (pages : List (List ℕ)) (store : Store) (free : List ℕ) (whole : Is
     missing-here new lacks = by_between (entered-between stand new (tree_in store) whole-aligned lacks)
       where
         by_between : IsBetween stand new heads (in_order (entered stand new (tree_in store))) → IsNowhere new
-        by_between (between earlier later before behind was now) =
+        by_between (between earlier later before following was now) =
             let size = length-append earlier later in
             let all = ap length was in
             let none : length earlier - length earlier ≡ 0 = omega arith in
@@ -181,9 +181,9 @@ module _ (pages : List (List ℕ)) (store : Store) (free : List ℕ) (whole : Is
               earlier = earlier;
               later = later;
               is = was;
-              cut = cut earlier later was before (All-weaker (IsBehind stand) (λ p. is_lt (stand p) ≡ false) (λ p e. not-less (stand p) e) later behind);
+              cut = cut earlier later was before (All-weaker (IsFollowing stand) (λ p. is_lt (stand p) ≡ false) (λ p e. not-less (stand p) e) later following);
               absent = absent-at (length earlier) (λ less.
                   let f = ap (λ xs. slice_index_or xs (length earlier) 0) was ∙ get_or-append_right earlier later (length earlier) (length earlier) 0 refl (omega arith) ∙ ap (λ (n : ℕ). slice_index_or later n 0) none in
-                  rw f (behind 0 0 (omega (arith, less, all, size))));
+                  rw f (following 0 0 (omega (arith, less, all, size))));
               more = now;
             }

@@ -58,10 +58,10 @@ module _ (chains : List (List ℕ)) (k : ℕ) (chain : List ℕ) (inside : k < l
 -- a chain is one of all
 module _ (chains : List (List ℕ)) (k : ℕ) (inside : k < length chains) where
   pub many-one : many_in (length (slice_index_or chains k [])) ≤ chains_among chains
-  many-one = let told = chains-set chains k [] inside in omega (arith, told)
+  many-one = let answered = chains-set chains k [] inside in omega (arith, answered)
 
   pub dups-one : dups_in (length (slice_index_or chains k [])) ≤ dups_among chains
-  dups-one = let told = dups-set chains k [] inside in omega (arith, told)
+  dups-one = let answered = dups-set chains k [] inside in omega (arith, answered)
 
 -- where one chain changes, so do the numbers
 pub moves : (dups : Dups) (chains : List (List ℕ)) (k before after : ℕ) (chain : List ℕ) → k < length chains → AreDups dups chains
@@ -100,10 +100,10 @@ pub moves-fit : (dups : Dups) (chains : List (List ℕ)) (k before after size : 
     → before ≡ length (slice_index_or chains k []) → after ≡ length chain → length (concat (slice_set chains k chain)) ≡ size
     → (dups.chains - many_in before + many_in after ≤ size) × (dups.groups - dups_in before + dups_in after ≤ size)
 moves-fit dups chains k before after size chain inside are e f g =
-    let told = moves dups chains k before after chain inside are e f in
+    let answered = moves dups chains k before after chain inside are e f in
     let few = chains-few (slice_set chains k chain) in
     let fit = dups-fit (slice_set chains k chain) in
-    (let same = AreDups.counted told in omega (arith, same, few, g), let same = AreDups.grouped told in omega (arith, same, fit, g))
+    (let same = AreDups.counted answered in omega (arith, same, few, g), let same = AreDups.grouped answered in omega (arith, same, fit, g))
 
 pub before-fits : (dups : Dups) (chains : List (List ℕ)) (k before : ℕ) → k < length chains → AreDups dups chains → before ≡ length (slice_index_or chains k [])
     → (many_in before ≤ dups.chains) × (dups_in before ≤ dups.groups)
@@ -122,14 +122,14 @@ pub record IsMoved (dups : Dups) (new : List (List ℕ)) (before after size : �
   pub other : dups_in before ≤ dups.groups
   pub few : dups.chains - many_in before + many_in after ≤ size
   pub fit : dups.groups - dups_in before + dups_in after ≤ size
-  pub told : AreDups (record { chains = dups.chains - many_in before + many_in after; groups = dups.groups - dups_in before + dups_in after }) new
+  pub answered : AreDups (record { chains = dups.chains - many_in before + many_in after; groups = dups.groups - dups_in before + dups_in after }) new
 
 moved : (dups : Dups) (old new : List (List ℕ)) (k before after size : ℕ) (chain : List ℕ) → k < length old → AreDups dups old
     → before ≡ length (slice_index_or old k []) → after ≡ length chain → new ≡ slice_set old k chain → length (concat new) ≡ size → IsMoved dups new before after size
 moved dups old new k before after size chain inside are e f g h =
     let fits = before-fits dups old k before inside are e in
     let small = moves-fit dups old k before after size chain inside are e f (ap (λ chains. length (concat chains)) (sym g) ∙ h) in
-    record { one = fits.0; other = fits.1; few = small.0; fit = small.1; told = rw g (moves dups old k before after chain inside are e f) }
+    record { one = fits.0; other = fits.1; few = small.0; fit = small.1; answered = rw g (moves dups old k before after chain inside are e f) }
 
 pub grows : (dups : Dups) (old new : List (List ℕ)) (k before size f : ℕ) → k < length old → AreDups dups old → before ≡ length (slice_index_or old k [])
     → new ≡ slice_set old k (slice_index_or old k [] ++ f ∷ []) → length (concat new) ≡ size → IsMoved dups new before (before + 1) size
@@ -137,11 +137,11 @@ grows dups old new k before size f inside are e g h =
     let long = length-append (slice_index_or old k []) (f ∷ []) in
     moved dups old new k before (before + 1) size (slice_index_or old k [] ++ f ∷ []) inside are e (omega (arith, e, long)) g h
 
-pub shrinks : (dups : Dups) (old new : List (List ℕ)) (k before size place : ℕ) → k < length old → AreDups dups old → before ≡ length (slice_index_or old k [])
-    → place < length (slice_index_or old k []) → new ≡ slice_set old k (remove (slice_index_or old k []) place) → length (concat new) ≡ size → IsMoved dups new before (before - 1) size
-shrinks dups old new k before size place inside are e there g h =
-    let short = length-remove (slice_index_or old k []) place there in
-    moved dups old new k before (before - 1) size (remove (slice_index_or old k []) place) inside are e (omega (arith, e, short)) g h
+pub shrinks : (dups : Dups) (old new : List (List ℕ)) (k before size slot : ℕ) → k < length old → AreDups dups old → before ≡ length (slice_index_or old k [])
+    → slot < length (slice_index_or old k []) → new ≡ slice_set old k (remove (slice_index_or old k []) slot) → length (concat new) ≡ size → IsMoved dups new before (before - 1) size
+shrinks dups old new k before size slot inside are e there g h =
+    let short = length-remove (slice_index_or old k []) slot there in
+    moved dups old new k before (before - 1) size (remove (slice_index_or old k []) slot) inside are e (omega (arith, e, short)) g h
 
 -- a chain that grew fits too
 pub grown-fits : (dups : Dups) (new : List (List ℕ)) (before size bound : ℕ) → 1 < bound → size < bound → IsMoved dups new before (before + 1) size → before + 1 < bound

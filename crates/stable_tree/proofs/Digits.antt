@@ -42,9 +42,9 @@ pub digits-some : (n : ℕ) → 0 < n → 1 ≤ digits n
 digits-some n some = let one = digits-half 0 n some (omega arith) in omega (arith, one)
 
 -- a look at each halving, and one more where there is something to look at
-pub looked-twice : (n place before between after : ℕ) → between ≤ before + digits n → after ≤ between + 1 → (n ≤ place → after ≡ between) → place ≤ n → after ≤ before + 2 * digits n
-looked-twice zero place before between after halved one none within = let same = none (omega arith) in omega (arith, halved, same)
-looked-twice (suc n) place before between after halved one none within = let some = digits-some (suc n) (omega arith) in omega (arith, halved, one, some)
+pub looked-twice : (n slot before between after : ℕ) → between ≤ before + digits n → after ≤ between + 1 → (n ≤ slot → after ≡ between) → slot ≤ n → after ≤ before + 2 * digits n
+looked-twice zero slot before between after halved one none within = let same = none (omega arith) in omega (arith, halved, same)
+looked-twice (suc n) slot before between after halved one none within = let some = digits-some (suc n) (omega arith) in omega (arith, halved, one, some)
 
 -- a number is below the power of two that its digits make
 below-within : (most n : ℕ) → n ≤ most → n < 2 ^ digits_within most n

@@ -1,4 +1,4 @@
--- A place that is put into the tree, and one that is taken out of it.
+-- A slot that is put into the tree, and one that is taken out of it.
 use Rattle.std.proofs.Common.{◌≡◌, ℕ, ◌+◌, ◌-◌, ◌≤◌, List, [], ◌∷◌, ◌++◌, length, map, slice_index_or, insert, Option, None, Some, refl, sym, subst, ap, ◌∙◌, arith}
 use Rattle.std.specs.List.{remove}
 use Rattle.std.specs.Vec.{with_items}
@@ -14,17 +14,17 @@ use Rattle.tree_shape.proofs.Times.{here, times-fork, times-leaf, times-once}
 use Rattle.stable_tree.specs.declared.store.Store.{Store}
 use Rattle.stable_tree.specs.Groups.{IsSorted}
 use Rattle.stable_tree.specs.Edits.{IsSearchAnswer}
-use Rattle.stable_tree.specs.Places.{walk, hanging, used, occurrences_of, AreHung, HasReservedRoom, IsWholeStore, IsHead, tree_in, heads_in, chains_in}
+use Rattle.stable_tree.specs.Slots.{walk, hanging, used, occurrences_of, AreHung, HasReservedRoom, IsWholeStore, IsHead, tree_in, heads_in, chains_in}
 use Rattle.stable_tree.proofs.Counting.{written}
 use Rattle.stable_tree.proofs.Walks.{occurrences_of-cons}
 use Rattle.stable_tree.proofs.Trees.{all-front, all-back, read-tree}
 use Rattle.stable_tree.proofs.Hanging.{shared-again, occurrences_of-cut, occurrences_of-both, length-cut, length-both, heads-used}
-use Rattle.stable_tree.proofs.Placing.{spare-inside}
+use Rattle.stable_tree.proofs.Numbering.{spare-inside}
 use Rattle.stable_tree.proofs.Contents.{whole-sound, whole-framed, found-here, missing-here}
 
--- what is told of a content that was looked for
-pub answer-of : (pages : List (List ℕ)) (store : Store) (free : List ℕ) (whole : IsWholeStore store free) (sorted : IsSorted pages (chains_in store)) (frame : ℕ) (told : Option ℕ)
-    → told ≡ found (order_to pages store.frames.items frame) (tree_in store) → IsSearchAnswer pages frame store told
+-- what is reported of a content that was looked for
+pub answer-of : (pages : List (List ℕ)) (store : Store) (free : List ℕ) (whole : IsWholeStore store free) (sorted : IsSorted pages (chains_in store)) (frame : ℕ) (answered : Option ℕ)
+    → answered ≡ found (order_to pages store.frames.items frame) (tree_in store) → IsSearchAnswer pages frame store answered
 answer-of pages store free whole sorted frame None e =
     let is = missing-here pages store free whole sorted frame 0 (sym e) in
     record { k = length is.earlier; cut = is.cut; absent = is.absent }
@@ -92,7 +92,7 @@ module _ (old new : Store) (is : IsRenoded old new old.nodes.items old.root) whe
   pub same-head : (at : ℕ) → IsHead old at → IsHead new at
   same-head at head = record { earlier = head.earlier; later = head.later; is = same-heads ∙ head.is }
 
--- another tree, of places that were there
+-- another tree, of slots that were there
 module _ (old new : Store) (nodes : List Node) (root : ℕ) (is : IsRenoded old new nodes root) (t w : Tree) (hung : IsHung old.nodes.items nodes root t w) where
   other-tree : tree_in new ≡ t
   other-tree = rw (is.nodes_are, is.root_is) (read-tree nodes root t hung.holds)
@@ -176,7 +176,7 @@ remove-between g earlier out later =
     ∙ sym (remove-append_right (map g earlier) (map g (out ∷ later)) (length earlier) (length earlier) (length-map earlier g) (omega arith))
     ∙ ap (λ l. remove l (length earlier)) (sym (map-append g earlier (out ∷ later)))
 
--- the places of a tree's nodes stand once
+-- the slots of a tree's nodes stand once
 module _ (store : Store) (free : List ℕ) (whole : IsWholeStore store free) where
   tree-occurrences_of : (i : ℕ) (t : Tree) → Rattle.tree_shape.proofs.Times.times i t ≡ occurrences_of i (in_order t)
   unfolding Rattle.tree_shape.proofs.Times.times
@@ -197,21 +197,21 @@ module _ (store : Store) (free : List ℕ) (whole : IsWholeStore store free) whe
     framed = whole-framed pages store free whole sorted;
   }
 
-pub whole-growing : (store : Store) (place : ℕ) (free : List ℕ) → IsWholeStore store (place ∷ free) → (pages : List (List ℕ)) → IsSorted pages (chains_in store)
-    → IsGrowing store.nodes.items store.frames.items pages store.root place (tree_in store)
-whole-growing store place free whole pages sorted =
-    let inside = spare-inside store place free whole in
+pub whole-growing : (store : Store) (slot : ℕ) (free : List ℕ) → IsWholeStore store (slot ∷ free) → (pages : List (List ℕ)) → IsSorted pages (chains_in store)
+    → IsGrowing store.nodes.items store.frames.items pages store.root slot (tree_in store)
+whole-growing store slot free whole pages sorted =
+    let inside = spare-inside store slot free whole in
     let few = whole.few in
     let low = whole.low in
     record {
-      sound = whole-sound store (place ∷ free) whole;
-      framed = whole-framed pages store (place ∷ free) whole sorted;
-      once = times-once (fork place (tree_in store) leaf) (λ i.
-          let a = times-fork i place (tree_in store) leaf in
+      sound = whole-sound store (slot ∷ free) whole;
+      framed = whole-framed pages store (slot ∷ free) whole sorted;
+      once = times-once (fork slot (tree_in store) leaf) (λ i.
+          let a = times-fork i slot (tree_in store) leaf in
           let b = times-leaf i in
-          let c = tree-occurrences_of store (place ∷ free) whole i (tree_in store) in
-          let d = heads-once store (place ∷ free) whole i in
-          let e = occurrences_of-cons i place free in
+          let c = tree-occurrences_of store (slot ∷ free) whole i (tree_in store) in
+          let d = heads-once store (slot ∷ free) whole i in
+          let e = occurrences_of-cons i slot free in
           omega (arith, a, b, c, d, e));
       inside = inside;
       some = λ same. omega (arith, same, inside, few, low);

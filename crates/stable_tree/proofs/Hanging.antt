@@ -1,4 +1,4 @@
--- Groups that hang at places, where what hangs at one of them changes.
+-- Groups that hang at slots, where what hangs at one of them changes.
 use Rattle.std.proofs.Common.{◌≡◌, ℕ, zero, suc, ◌+◌, ◌≤◌, List, [], ◌∷◌, ◌++◌, length, map, slice_index_or, All, refl, sym, ap, ◌∙◌, arith, length-append}
 use Rattle.std.specs.List.{concat}
 use Rattle.std.proofs.lemmas.List.{map-append, length-map}
@@ -6,7 +6,7 @@ use Rattle.std.proofs.lemmas.List.Concat.{flat_map-cons}
 use Rattle.std.proofs.lemmas.Grind.{flat_map-append}
 use Rattle.std.proofs.lemmas.List.Elements.{All-head, All-tail, All-cons, All-nil}
 use Rattle.tree_shape.proofs.Times.{here}
-use Rattle.stable_tree.specs.Places.{walk, hanging, chain_at, used, occurrences_of, AreShared}
+use Rattle.stable_tree.specs.Slots.{walk, hanging, chain_at, used, occurrences_of, AreShared}
 use Rattle.stable_tree.proofs.Walks.{occurrences_of-cons, occurrences_of-append, occurrences_of-first, occurrences_of-walk, length-walk, Agree, Once, walk-agree, frames-agree}
 
 abbrev Filled : List ℕ → List ℕ → Type 0
@@ -55,7 +55,7 @@ length-chains frames nexts sizes [] = refl
 length-chains frames nexts sizes (at ∷ heads) =
     let rest = length-chains frames nexts sizes heads in
     let long = length-append (chain_at frames nexts sizes at) (concat (map (chain_at frames nexts sizes) heads)) in
-    let one = length-map (hanging nexts sizes at) (λ (place : ℕ). slice_index_or frames place 0) in
+    let one = length-map (hanging nexts sizes at) (λ (slot : ℕ). slice_index_or frames slot 0) in
     let size = length-walk (slice_index_or sizes at 0) nexts at in
     let all = length-used nexts sizes at heads in
     omega (arith, rest, long, one, size, all)
@@ -64,7 +64,7 @@ hangs-first : (n i : ℕ) (nexts : List ℕ) (at : ℕ) → 1 ≤ n → here i a
 hangs-first zero i nexts at more = absurd (omega (arith, more))
 hangs-first (suc n) i nexts at more = let e = occurrences_of-walk n i nexts at in omega (arith, e)
 
--- a place at which groups hang is used
+-- a slot at which groups hang is used
 pub heads-used : (i : ℕ) (nexts sizes heads : List ℕ) → Filled sizes heads → occurrences_of i heads ≤ occurrences_of i (used nexts sizes heads)
 heads-used i nexts sizes [] filled = omega arith
 heads-used i nexts sizes (at ∷ heads) filled =
@@ -85,11 +85,11 @@ heads-few nexts sizes (at ∷ heads) filled =
 -- what hangs where nothing is written
 pub hanging-agree : (nexts sizes newer sized : List ℕ) (at : ℕ) → 1 ≤ slice_index_or sizes at 0 → Agree (hanging nexts sizes at) nexts newer → Agree (hanging nexts sizes at) sizes sized
     → hanging newer sized at ≡ hanging nexts sizes at
-hanging-agree nexts sizes newer sized at some linked told =
-    let e = told at (occurrences_of-first (slice_index_or sizes at 0) nexts at some) in
+hanging-agree nexts sizes newer sized at some linked answered =
+    let e = answered at (occurrences_of-first (slice_index_or sizes at 0) nexts at some) in
     rw e (walk-agree (slice_index_or sizes at 0) nexts newer at linked)
 
--- nothing is written at the places of some heads
+-- nothing is written at the slots of some heads
 pub record AreSame (frames nexts sizes given newer sized heads : List ℕ) : Type 0 where
   pub used : used newer sized heads ≡ used nexts sizes heads
   pub chains : map (chain_at given newer sized) heads ≡ map (chain_at frames nexts sizes) heads
@@ -100,7 +100,7 @@ pub chains-agree : (frames nexts sizes given newer sized heads : List ℕ) → F
 chains-agree frames nexts sizes given newer sized [] filled f n s = record { used = refl; chains = refl; filled = All-nil (λ at. 1 ≤ slice_index_or sized at 0) }
 chains-agree frames nexts sizes given newer sized (at ∷ heads) filled f n s =
     let some = All-head (λ (at : ℕ). 1 ≤ slice_index_or sizes at 0) at heads filled in
-    let rest = chains-agree frames nexts sizes given newer sized heads (All-tail (λ (at : ℕ). 1 ≤ slice_index_or sizes at 0) at heads filled) (behind frames given f) (behind nexts newer n) (behind sizes sized s) in
+    let rest = chains-agree frames nexts sizes given newer sized heads (All-tail (λ (at : ℕ). 1 ≤ slice_index_or sizes at 0) at heads filled) (following frames given f) (following nexts newer n) (following sizes sized s) in
     let hangs = hanging-agree nexts sizes newer sized at some (front nexts newer n) (front sizes sized s) in
     record {
       used = flat_map-cons (hanging newer sized) at heads ∙ (rw (hangs, rest.used) (sym (flat_map-cons (hanging nexts sizes) at heads)));
@@ -111,16 +111,16 @@ chains-agree frames nexts sizes given newer sized (at ∷ heads) filled f n s =
     front : (old new : List ℕ) → Agree (used nexts sizes (at ∷ heads)) old new → Agree (hanging nexts sizes at) old new
     front old new agree = λ i some. agree i (let all = occurrences_of-used i nexts sizes at heads in omega (arith, all, some))
 
-    behind : (old new : List ℕ) → Agree (used nexts sizes (at ∷ heads)) old new → Agree (used nexts sizes heads) old new
-    behind old new agree = λ i some. agree i (let all = occurrences_of-used i nexts sizes at heads in omega (arith, all, some))
+    following : (old new : List ℕ) → Agree (used nexts sizes (at ∷ heads)) old new → Agree (used nexts sizes heads) old new
+    following old new agree = λ i some. agree i (let all = occurrences_of-used i nexts sizes at heads in omega (arith, all, some))
 
 -- only what hangs at one head is written
 abbrev pub Apart : List ℕ → List ℕ → List ℕ → Type 0
-Apart places old new = (i : ℕ) → occurrences_of i places ≡ 0 → slice_index_or new i 0 ≡ slice_index_or old i 0
+Apart slots old new = (i : ℕ) → occurrences_of i slots ≡ 0 → slice_index_or new i 0 ≡ slice_index_or old i 0
 
 pub record IsChanged (frames nexts sizes given newer sized earlier : List ℕ) (at : ℕ) (later : List ℕ) : Type 0 where
   pub before : AreSame frames nexts sizes given newer sized earlier
-  pub behind : AreSame frames nexts sizes given newer sized later
+  pub following : AreSame frames nexts sizes given newer sized later
   pub chains : map (chain_at given newer sized) (earlier ++ at ∷ later) ≡ map (chain_at frames nexts sizes) earlier ++ chain_at given newer sized at ∷ map (chain_at frames nexts sizes) later
 
 pub one-changed : (frames nexts sizes given newer sized earlier : List ℕ) (at : ℕ) (later : List ℕ) → Filled sizes (earlier ++ at ∷ later) → Once (used nexts sizes (earlier ++ at ∷ later))
@@ -128,11 +128,11 @@ pub one-changed : (frames nexts sizes given newer sized earlier : List ℕ) (at 
     → IsChanged frames nexts sizes given newer sized earlier at later
 one-changed frames nexts sizes given newer sized earlier at later filled once f n s =
     let before = chains-agree frames nexts sizes given newer sized earlier (fronts earlier filled) (early frames given f) (early nexts newer n) (early sizes sized s) in
-    let behind = chains-agree frames nexts sizes given newer sized later (backs earlier filled) (late frames given f) (late nexts newer n) (late sizes sized s) in
+    let following = chains-agree frames nexts sizes given newer sized later (backs earlier filled) (late frames given f) (late nexts newer n) (late sizes sized s) in
     record {
       before = before;
-      behind = behind;
-      chains = map-append (chain_at given newer sized) earlier (at ∷ later) ∙ rw (before.chains, behind.chains) refl;
+      following = following;
+      chains = map-append (chain_at given newer sized) earlier (at ∷ later) ∙ rw (before.chains, following.chains) refl;
     }
   where
     early : (old new : List ℕ) → Apart (hanging nexts sizes at) old new → Agree (used nexts sizes earlier) old new
@@ -149,7 +149,7 @@ one-changed frames nexts sizes given newer sized earlier at later filled once f 
     backs [] all = All-tail (λ (at : ℕ). 1 ≤ slice_index_or sizes at 0) at later all
     backs (x ∷ xs) all = backs xs (All-tail (λ (at : ℕ). 1 ≤ slice_index_or sizes at 0) x (xs ++ at ∷ later) all)
 
--- places are shared as before, where each stands as often
+-- slots are shared as before, where each stands as often
 pub shared-again : (held free other spare : List ℕ) (bound : ℕ) → AreShared held free bound → ((i : ℕ) → occurrences_of i other + occurrences_of i spare ≡ occurrences_of i held + occurrences_of i free) → length other + length spare ≡ length held + length free → AreShared other spare bound
 shared-again held free other spare bound shared same long = record {
   once = λ i. let e = same i in let most = shared.once i in omega (arith, e, most);

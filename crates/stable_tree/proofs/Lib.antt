@@ -1,7 +1,7 @@
 pub mod Walks
 pub mod Trees
 pub mod Hanging
-pub mod Placing
+pub mod Numbering
 pub mod Lengthening
 pub mod Heads
 pub mod Contents
@@ -15,5 +15,5 @@ pub mod Inserting
 pub mod Ordered
 pub mod Removing
 pub mod Counting
-pub mod Told
+pub mod Order
 pub mod Digits

@@ -18,9 +18,9 @@ use Rattle.stable_tree.specs.Groups.{IsChain, IsSorted, IsCutAt, content, order,
 use Rattle.stable_tree.proofs.Sorting.{unlike-chain, both, is_lt-less}
 use Rattle.stable_tree.proofs.Pairs.{All-insert, AllPairs-insert}
 
--- what is put into a list is put into what stands before it and the list, so much further behind
-put-behind : (c xs : List ℕ) (f : ℕ) {after : List ℕ} → ((e : ℕ) × (e ≤ length xs) × (after ≡ insert xs e f)) → (e : ℕ) × (e ≤ length (c ++ xs)) × (c ++ after ≡ insert (c ++ xs) e f)
-put-behind c xs f rest =
+-- what is put into a list is put into what stands before it and the list, so much further after
+put-following : (c xs : List ℕ) (f : ℕ) {after : List ℕ} → ((e : ℕ) × (e ≤ length xs) × (after ≡ insert xs e f)) → (e : ℕ) × (e ≤ length (c ++ xs)) × (c ++ after ≡ insert (c ++ xs) e f)
+put-following c xs f rest =
     let long = length-append c xs in
     let within = rest.1 in
     let less : length c + rest.0 - length c ≡ rest.0 = omega arith in (
@@ -35,7 +35,7 @@ put-behind c xs f rest =
 concat-added : (chains : List (List ℕ)) (k f : ℕ) → k ≤ length chains → (e : ℕ) × (e ≤ length (concat chains)) × (concat (insert chains k (f ∷ [])) ≡ insert (concat chains) e f)
 concat-added chains zero f h = (0, omega arith, refl)
 concat-added [] (suc k) f h = absurd (omega (arith, h))
-concat-added (c ∷ cs) (suc k) f h = put-behind c (concat cs) f (concat-added cs k f (omega arith))
+concat-added (c ∷ cs) (suc k) f h = put-following c (concat cs) f (concat-added cs k f (omega arith))
 
 -- where a frame at a chain's end stands among all
 concat-lengthened : (chains : List (List ℕ)) (k f : ℕ) → k < length chains → (e : ℕ) × (e ≤ length (concat chains)) × (concat (slice_set chains k (slice_index_or chains k [] ++ f ∷ [])) ≡ insert (concat chains) e f)
@@ -49,16 +49,16 @@ concat-lengthened (c ∷ cs) zero f h =
           ∙ ap (λ (n : ℕ). c ++ insert (concat cs) n f) (sym less)
           ∙ sym (insert-append_right c (concat cs) (length c) (length c) f refl (omega arith)),
     )
-concat-lengthened (c ∷ cs) (suc k) f h = put-behind c (concat cs) f (concat-lengthened cs k f (omega arith))
+concat-lengthened (c ∷ cs) (suc k) f h = put-following c (concat cs) f (concat-lengthened cs k f (omega arith))
 
 -- no frame stands twice, where one that stood nowhere is put in
 once-inserted : (xs : List ℕ) (e f : ℕ) → e ≤ length xs → AllPairs (λ g h. g ≢ h) xs → All (λ g. g ≢ f) xs → AllPairs (λ g h. g ≢ h) (insert xs e f)
 once-inserted xs e f h once fresh =
     AllPairs-insert (λ g h. g ≢ h) xs e f h once (λ i d less. fresh i d (omega (arith, less, h))) (λ i d ge less same. fresh i d less (sym same))
 
--- what isn't before the bytes and isn't equal to them is behind
-order-behind : (x y : List ℕ) → is_lt (order x y) ≡ false → bytes_eq x y ≡ false → order y x ≡ Less
-order-behind x y no_less unequal =
+-- what isn't before the bytes and isn't equal to them is after
+order-following : (x y : List ℕ) → is_lt (order x y) ≡ false → bytes_eq x y ≡ false → order y x ≡ Less
+order-following x y no_less unequal =
     nat_list_cmp_total.antisymm y x ∙ ap ordering_reverse (greater (order x y) no_less (is_eq-slice_cmp x y ∙ unequal))
   where
     greater : (o : Ordering) → is_lt o ≡ false → is_eq o ≡ false → o ≡ Greater
@@ -87,7 +87,7 @@ module _ (arena chains : List (List ℕ)) (f k : ℕ) (sorted : IsSorted arena c
       record {
         alike = All-set (IsChain arena) chains k (chain ++ f ∷ []) longer sorted.alike;
         ascending = ascending-set arena chains k (chain ++ f ∷ []) less first sorted.ascending;
-        once = let placed = concat-lengthened chains k f less in rw placed.2 (once-inserted (concat chains) placed.0 f placed.1 sorted.once fresh);
+        once = let put_in = concat-lengthened chains k f less in rw put_in.2 (once-inserted (concat chains) put_in.0 f put_in.1 sorted.once fresh);
       }
     where
       chain : List ℕ
@@ -122,8 +122,8 @@ module _ (arena chains : List (List ℕ)) (f k : ℕ) (sorted : IsSorted arena c
         alike = All-insert (IsChain arena) chains k (f ∷ []) single sorted.alike;
         ascending = AllPairs-insert (λ c d. order (content arena c) (content arena d) ≡ Less) chains k (f ∷ []) at.inside sorted.ascending
             (λ i d less. rw (get_or_default chains i d [] (let within = at.inside in omega (arith, within, less))) (is_lt-less _ (at.before i less)))
-            (λ i d ge less. rw (get_or_default chains i d [] less) (order-behind (content arena (slice_index_or chains i [])) (page_at arena f) (at.behind i ge less) (unlike-chain arena (page_at arena f) chains k sorted at absent i less)));
-        once = let placed = concat-added chains k f at.inside in rw placed.2 (once-inserted (concat chains) placed.0 f placed.1 sorted.once fresh);
+            (λ i d ge less. rw (get_or_default chains i d [] less) (order-following (content arena (slice_index_or chains i [])) (page_at arena f) (at.following i ge less) (unlike-chain arena (page_at arena f) chains k sorted at absent i less)));
+        once = let put_in = concat-added chains k f at.inside in rw put_in.2 (once-inserted (concat chains) put_in.0 f put_in.1 sorted.once fresh);
       }
     where
       single : IsChain arena (f ∷ [])

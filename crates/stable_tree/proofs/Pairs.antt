@@ -9,10 +9,10 @@ All-insert P xs k y here all = All-append P (take k xs) (y ∷ drop k xs) (All-t
 
 pub AllPairs-insert : {X : Type 0} (R : X → X → Type 0) (xs : List X) (k : ℕ) (y : X) → k ≤ length xs → AllPairs R xs
     → ((i : ℕ) (d : X) → i < k → R (slice_index_or xs i d) y) → ((i : ℕ) (d : X) → k ≤ i → i < length xs → R y (slice_index_or xs i d)) → AllPairs R (insert xs k y)
-AllPairs-insert R xs zero y h all before behind = AllPairs-cons R y xs (λ i d less. behind i d (omega arith) less) all
-AllPairs-insert R [] (suc k) y h all before behind = absurd (omega (arith, h))
-AllPairs-insert R (x ∷ xs) (suc k) y h all before behind =
+AllPairs-insert R xs zero y h all before following = AllPairs-cons R y xs (λ i d less. following i d (omega arith) less) all
+AllPairs-insert R [] (suc k) y h all before following = absurd (omega (arith, h))
+AllPairs-insert R (x ∷ xs) (suc k) y h all before following =
     AllPairs-cons R x (insert xs k y)
     (All-insert (R x) xs k y (before 0 y (omega arith)) (λ i d less. all 0 (suc i) d (omega arith) (omega arith)))
     (AllPairs-insert R xs k y (omega arith) (λ i j d less there. all (suc i) (suc j) d (omega arith) (omega arith))
-    (λ i d less. before (suc i) d (omega arith)) (λ i d ge less. behind (suc i) d (omega arith) (omega arith)))
+    (λ i d less. before (suc i) d (omega arith)) (λ i d ge less. following (suc i) d (omega arith) (omega arith)))

@@ -19,12 +19,12 @@ absent test [] f passes all = All-nil (λ g. g ≢ f)
 absent test (x ∷ xs) f passes all = by_test (test x) refl (λ rest. absent test xs f passes rest)
   where
     by_test : (b : Bool) → test x ≡ b → (All (λ g. g ≢ f) (filter test xs) → All (λ g. g ≢ f) xs) → All (λ g. g ≢ f) (x ∷ xs)
-    by_test true e behind =
+    by_test true e following =
         let both : All (λ g. g ≢ f) (x ∷ filter test xs) = rw e at all in
-        All-cons (λ g. g ≢ f) x xs (both 0 x (omega arith)) (behind (All-tail (λ g. g ≢ f) x (filter test xs) both))
-    by_test false e behind =
+        All-cons (λ g. g ≢ f) x xs (both 0 x (omega arith)) (following (All-tail (λ g. g ≢ f) x (filter test xs) both))
+    by_test false e following =
         let rest : All (λ g. g ≢ f) (filter test xs) = rw e at all in
-        All-cons (λ g. g ≢ f) x xs (λ same. let passed : test x ≡ true = ap test same ∙ passes in cc) (behind rest)
+        All-cons (λ g. g ≢ f) x xs (λ same. let passed : test x ≡ true = ap test same ∙ passes in cc) (following rest)
 
 -- a frame has the bytes of its page
 pub has-itself : (arena : List (List ℕ)) (f : ℕ) → has arena (page_at arena f) f ≡ true
@@ -53,12 +53,12 @@ remove-once (x ∷ xs) (suc e) f once h is =
 concat-shortened : (chains : List (List ℕ)) (k p : ℕ) → k < length chains → p < length (slice_index_or chains k [])
     → (e : ℕ) × (e < length (concat chains)) × (slice_index_or (concat chains) e 0 ≡ slice_index_or (slice_index_or chains k []) p 0)
     × (concat (slice_set chains k (remove (slice_index_or chains k []) p)) ≡ remove (concat chains) e)
-concat-shortened [] k p h place = absurd (omega (arith, h))
-concat-shortened (c ∷ cs) zero p h place =
+concat-shortened [] k p h slot = absurd (omega (arith, h))
+concat-shortened (c ∷ cs) zero p h slot =
     let long = length-append c (concat cs) in
-    (p, omega (arith, long, place), get_or_append_left c (concat cs) 0 p place, sym (remove-append_left c (concat cs) p place))
-concat-shortened (c ∷ cs) (suc k) p h place =
-    let rest = concat-shortened cs k p (omega arith) place in
+    (p, omega (arith, long, slot), get_or_append_left c (concat cs) 0 p slot, sym (remove-append_left c (concat cs) p slot))
+concat-shortened (c ∷ cs) (suc k) p h slot =
+    let rest = concat-shortened cs k p (omega arith) slot in
     let long = length-append c (concat cs) in
     let within = rest.1 in
     let less : length c + rest.0 - length c ≡ rest.0 = omega arith in (
@@ -73,31 +73,31 @@ concat-shortened (c ∷ cs) (suc k) p h place =
 -- a chain of one frame goes with it
 concat-taken_out : (chains : List (List ℕ)) (k p : ℕ) → k < length chains → length (slice_index_or chains k []) ≡ 1 → p < length (slice_index_or chains k [])
     → concat (remove chains k) ≡ concat (slice_set chains k (remove (slice_index_or chains k []) p))
-concat-taken_out [] k p h one place = absurd (omega (arith, h))
-concat-taken_out ([] ∷ cs) zero p h one place = absurd (omega (arith, one))
-concat-taken_out ((x ∷ []) ∷ cs) zero zero h one place = refl
-concat-taken_out ((x ∷ []) ∷ cs) zero (suc p) h one place = absurd (omega (arith, place))
-concat-taken_out ((x ∷ y ∷ c) ∷ cs) zero p h one place = absurd (omega (arith, one))
-concat-taken_out (c ∷ cs) (suc k) p h one place = ap (λ l. c ++ l) (concat-taken_out cs k p (omega arith) one place)
+concat-taken_out [] k p h one slot = absurd (omega (arith, h))
+concat-taken_out ([] ∷ cs) zero p h one slot = absurd (omega (arith, one))
+concat-taken_out ((x ∷ []) ∷ cs) zero zero h one slot = refl
+concat-taken_out ((x ∷ []) ∷ cs) zero (suc p) h one slot = absurd (omega (arith, slot))
+concat-taken_out ((x ∷ y ∷ c) ∷ cs) zero p h one slot = absurd (omega (arith, one))
+concat-taken_out (c ∷ cs) (suc k) p h one slot = ap (λ l. c ++ l) (concat-taken_out cs k p (omega arith) one slot)
 
 All-remove : {X : Type 0} (P : X → Type 0) (xs : List X) (k : ℕ) → All P xs → All P (remove xs k)
 All-remove P xs k all = All-append P (take k xs) (drop (suc k) xs) (All-take P k xs all) (All-drop P (suc k) xs all)
 
-module _ (arena chains : List (List ℕ)) (f k p : ℕ) (sorted : IsSorted arena chains) (there : k < length chains) (place : p < length (slice_index_or chains k [])) (is : slice_index_or (slice_index_or chains k []) p 0 ≡ f) where
-  pub shortened-told : concat (slice_set chains k (remove (slice_index_or chains k []) p)) ≡ filter (λ g. not (g == f)) (concat chains)
-  shortened-told =
-      let placed = concat-shortened chains k p there place in
-      placed.3 ∙ remove-once (concat chains) placed.0 f sorted.once placed.1 (placed.2 ∙ is)
+module _ (arena chains : List (List ℕ)) (f k p : ℕ) (sorted : IsSorted arena chains) (there : k < length chains) (slot : p < length (slice_index_or chains k [])) (is : slice_index_or (slice_index_or chains k []) p 0 ≡ f) where
+  pub shortened-answered : concat (slice_set chains k (remove (slice_index_or chains k []) p)) ≡ filter (λ g. not (g == f)) (concat chains)
+  shortened-answered =
+      let put_in = concat-shortened chains k p there slot in
+      put_in.3 ∙ remove-once (concat chains) put_in.0 f sorted.once put_in.1 (put_in.2 ∙ is)
 
-  pub taken_out-told : length (slice_index_or chains k []) ≡ 1 → concat (remove chains k) ≡ filter (λ g. not (g == f)) (concat chains)
-  taken_out-told one = concat-taken_out chains k p there one place ∙ shortened-told
+  pub taken_out-answered : length (slice_index_or chains k []) ≡ 1 → concat (remove chains k) ≡ filter (λ g. not (g == f)) (concat chains)
+  taken_out-answered one = concat-taken_out chains k p there one slot ∙ shortened-answered
 
   pub sorted-taken_out : length (slice_index_or chains k []) ≡ 1 → IsSorted arena (remove chains k)
   sorted-taken_out one =
       record {
         alike = All-remove (IsChain arena) chains k sorted.alike;
         ascending = all_pairs_remove (λ c d. order (content arena c) (content arena d) ≡ Less) chains k there sorted.ascending;
-        once = rw (taken_out-told one) (AllPairs-filter (λ g h. g ≢ h) (λ g. not (g == f)) (concat chains) sorted.once);
+        once = rw (taken_out-answered one) (AllPairs-filter (λ g h. g ≢ h) (λ g. not (g == f)) (concat chains) sorted.once);
       }
 
   pub sorted-shortened : 2 ≤ length (slice_index_or chains k []) → IsSorted arena (slice_set chains k (remove (slice_index_or chains k []) p))
@@ -105,14 +105,14 @@ module _ (arena chains : List (List ℕ)) (f k p : ℕ) (sorted : IsSorted arena
       record {
         alike = All-set (IsChain arena) chains k (remove (slice_index_or chains k []) p) shorter sorted.alike;
         ascending = ascending-set arena chains k (remove (slice_index_or chains k []) p) there same sorted.ascending;
-        once = rw shortened-told (AllPairs-filter (λ g h. g ≢ h) (λ g. not (g == f)) (concat chains) sorted.once);
+        once = rw shortened-answered (AllPairs-filter (λ g h. g ≢ h) (λ g. not (g == f)) (concat chains) sorted.once);
       }
     where
       old : IsChain arena (slice_index_or chains k [])
       old = sorted.alike k [] there
 
       filled : 0 < length (remove (slice_index_or chains k []) p)
-      filled = let size = length-remove (slice_index_or chains k []) p place in omega (arith, size, two)
+      filled = let size = length-remove (slice_index_or chains k []) p slot in omega (arith, size, two)
 
       kept : All (λ g. page_at arena g ≡ content arena (slice_index_or chains k [])) (remove (slice_index_or chains k []) p)
       kept = All-remove (λ g. page_at arena g ≡ content arena (slice_index_or chains k [])) (slice_index_or chains k []) p old.alike

@@ -43,9 +43,9 @@ all-before arena bytes chains j sorted h before i less =
     (λ (high : j ≤ i). let same : j ≡ i = omega arith in subst (λ n. is_before arena bytes (slice_index_or chains n []) ≡ true) same before)
     (cases_lt i j)
 
--- a chain that doesn't come before the bytes, and all behind it
+-- a chain that doesn't come before the bytes, and all after it
 pub none-before : (arena : List (List ℕ)) (bytes : List ℕ) (chains : List (List ℕ)) (j : ℕ) → IsSorted arena chains → is_before arena bytes (slice_index_or chains j []) ≡ false → (i : ℕ) → j ≤ i → i < length chains → is_before arena bytes (slice_index_or chains i []) ≡ false
-none-before arena bytes chains j sorted behind i le h =
+none-before arena bytes chains j sorted following i le h =
     false-unless _ (λ e. none_then e)
   where
     none_then : is_before arena bytes (slice_index_or chains i []) ≡ true → ⊥
@@ -101,7 +101,7 @@ earlier-chain arena bytes chains i before =
     sym (is_eq-slice_cmp (content arena (slice_index_or chains i [])) bytes) ∙ ap is_eq (is_lt-less _ before)
 
 pub later-chain : (arena : List (List ℕ)) (bytes : List ℕ) (chains : List (List ℕ)) (k i : ℕ) → IsSorted arena chains → is_before arena bytes (slice_index_or chains k []) ≡ false → k < i → i < length chains → bytes_eq (content arena (slice_index_or chains i [])) bytes ≡ false
-later-chain arena bytes chains k i sorted behind less h =
+later-chain arena bytes chains k i sorted following less h =
     false-unless _ (λ e.
     let same : content arena (slice_index_or chains i []) ≡ bytes = (bytes_eq-Decides (content arena (slice_index_or chains i [])) bytes).0 e in
     let below : order (content arena (slice_index_or chains k [])) (content arena (slice_index_or chains i [])) ≡ Less = sorted.ascending k i [] less h in
@@ -114,7 +114,7 @@ other-chain arena bytes chains k i sorted at ne h =
     (λ (less : i < k). earlier-chain arena bytes chains i (at.before i less))
     (λ (ge : k ≤ i).
     let less : k < i = omega (arith, ge, ne) in
-    later-chain arena bytes chains k i sorted (at.behind k (omega arith) (omega (arith, less, h))) less h)
+    later-chain arena bytes chains k i sorted (at.following k (omega arith) (omega (arith, less, h))) less h)
     (cases_lt i k)
 
 pub both : (a b : Bool) → (a && b) ≡ true → (a ≡ true) × (b ≡ true)

@@ -6,7 +6,7 @@ use Rattle.tree_shape.specs.declared.Node.{Node}
 use Rattle.tree_shape.specs.Shape.{Tree, leaf, fork, levels, in_order, Holds, height_at, none, blank}
 use Rattle.tree_shape.specs.Searches.{AreFramed}
 use Rattle.tree_shape.proofs.Holding.{holds-height}
-use Rattle.stable_tree.specs.Places.{tree_within, tree_at}
+use Rattle.stable_tree.specs.Slots.{tree_within, tree_at}
 
 read-within : (most : ℕ) (nodes : List Node) (link : ℕ) (t : Tree) → levels t ≤ most → Holds nodes link t → tree_within most nodes link ≡ t
 unfolding tree_within Holds levels
@@ -59,7 +59,7 @@ pub all-back : (P : ℕ → Type 0) (xs ys : List ℕ) → All P (xs ++ ys) → 
 all-back P [] ys all = all
 all-back P (x ∷ xs) ys all = all-back P xs ys (All-tail P x (xs ++ ys) all)
 
--- each place of a tree has a frame, and that frame a page
+-- each slot of a tree has a frame, and that frame a page
 pub framed-all : (pages : List (List ℕ)) (frames : List ℕ) (t : Tree) → All (λ at. (at < length frames) × (slice_index_or frames at 0 < length pages)) (in_order t) → AreFramed pages frames t
 unfolding AreFramed in_order
 framed-all pages frames leaf all = tt

@@ -1,4 +1,4 @@
--- Places that tell the next, where some are written.
+-- Slots that give the next, where some are written.
 use Rattle.std.proofs.Common.{◌≡◌, ◌≢◌, ℕ, zero, suc, ◌+◌, ◌-◌, ◌<◌, ◌≤◌, ◌==◌, Bool, true, false, if◌then◌else◌, List, [], ◌∷◌, ◌++◌, length, slice_index_or, slice_set, nat_lt, find, None, Some, All, refl, sym, ap, subst, ◌∙◌, arith}
 use Rattle.std.specs.List.{remove}
 use borrow.Author.Tests.{lt-ltb}
@@ -6,7 +6,7 @@ use Rattle.std.proofs.lemmas.List.{get_or-set_same, get_or-set_other}
 use Rattle.std.proofs.lemmas.List.Sums.{sum_by-append, sum_by-cons}
 use Rattle.std.proofs.lemmas.List.Elements.{All-head, All-tail}
 use Rattle.tree_shape.proofs.Times.{here, here-same}
-use Rattle.stable_tree.specs.Places.{walk, end, frames_at, occurrences_of}
+use Rattle.stable_tree.specs.Slots.{walk, end, frames_at, occurrences_of}
 
 pub here-few : (i at : ℕ) → here i at ≤ 1
 here-few i at = by_test (i == at)
@@ -21,13 +21,13 @@ occurrences_of-cons i x xs = sum_by-cons (here i) x xs
 pub occurrences_of-append : (i : ℕ) (xs ys : List ℕ) → occurrences_of i (xs ++ ys) ≡ occurrences_of i xs + occurrences_of i ys
 occurrences_of-append i xs ys = sum_by-append (here i) xs ys
 
--- a place that stands nowhere in a list is none of it
+-- a slot that stands nowhere in a list is none of it
 pub occurrences_of-apart : (p i : ℕ) (xs : List ℕ) → occurrences_of p xs ≡ 0 → 1 ≤ occurrences_of i xs → i ≢ p
 occurrences_of-apart p i xs none some same = let e : occurrences_of p xs ≡ occurrences_of i xs = ap (λ (n : ℕ). occurrences_of n xs) (sym same) in omega (arith, none, some, e)
 
--- the same is told of each place of a list
+-- the same is reported of each slot of a list
 abbrev pub Agree : List ℕ → List ℕ → List ℕ → Type 0
-Agree places old new = (i : ℕ) → 1 ≤ occurrences_of i places → slice_index_or new i 0 ≡ slice_index_or old i 0
+Agree slots old new = (i : ℕ) → 1 ≤ occurrences_of i slots → slice_index_or new i 0 ≡ slice_index_or old i 0
 
 pub agree-head : (x : ℕ) (xs old new : List ℕ) → Agree (x ∷ xs) old new → slice_index_or new x 0 ≡ slice_index_or old x 0
 agree-head x xs old new agree = agree x (let all = occurrences_of-cons x x xs in let same = here-same x in omega (arith, all, same))
@@ -35,9 +35,9 @@ agree-head x xs old new agree = agree x (let all = occurrences_of-cons x x xs in
 pub agree-tail : (x : ℕ) (xs old new : List ℕ) → Agree (x ∷ xs) old new → Agree xs old new
 agree-tail x xs old new agree = λ i some. agree i (let all = occurrences_of-cons i x xs in omega (arith, all, some))
 
--- where none of the places is written
-pub agree-set : (places old : List ℕ) (p v : ℕ) → occurrences_of p places ≡ 0 → Agree places old (slice_set old p v)
-agree-set places old p v none = λ i some. get_or-set_other old p i v 0 (occurrences_of-apart p i places none some)
+-- where none of the slots is written
+pub agree-set : (slots old : List ℕ) (p v : ℕ) → occurrences_of p slots ≡ 0 → Agree slots old (slice_set old p v)
+agree-set slots old p v none = λ i some. get_or-set_other old p i v 0 (occurrences_of-apart p i slots none some)
 
 pub walk-agree : (n : ℕ) (old new : List ℕ) (at : ℕ) → Agree (walk n old at) old new → walk n new at ≡ walk n old at
 unfolding walk
@@ -46,7 +46,7 @@ walk-agree (suc n) old new at agree =
     let e = agree-head at (walk n old (slice_index_or old at 0)) old new agree in
     rw e (ap (λ xs. at ∷ xs) (walk-agree n old new (slice_index_or old at 0) (agree-tail at (walk n old (slice_index_or old at 0)) old new agree)))
 
-pub frames-agree : (places old new : List ℕ) → Agree places old new → frames_at new places ≡ frames_at old places
+pub frames-agree : (slots old new : List ℕ) → Agree slots old new → frames_at new slots ≡ frames_at old slots
 frames-agree [] old new agree = refl
 frames-agree (x ∷ xs) old new agree =
     let e = agree-head x xs old new agree in
@@ -87,12 +87,12 @@ end-there (suc n) nexts at =
     omega (arith, rest, all)
 
 abbrev pub Once : List ℕ → Type 0
-Once places = (i : ℕ) → occurrences_of i places ≤ 1
+Once slots = (i : ℕ) → occurrences_of i slots ≤ 1
 
 once-next : (n : ℕ) (nexts : List ℕ) (at : ℕ) → Once (walk (suc n) nexts at) → Once (walk n nexts (slice_index_or nexts at 0))
 once-next n nexts at once i = let all = occurrences_of-walk n i nexts at in let most = once i in omega (arith, all, most)
 
--- what stands further on isn't the first place
+-- what stands further on isn't the first slot
 once-later : (n : ℕ) (nexts : List ℕ) (at p : ℕ) → Once (walk (suc n) nexts at) → 1 ≤ occurrences_of p (walk n nexts (slice_index_or nexts at 0)) → at ≢ p
 once-later n nexts at p once some same =
     let all = occurrences_of-walk n at nexts at in
@@ -104,7 +104,7 @@ once-later n nexts at p once some same =
 once-none : (n : ℕ) (nexts : List ℕ) (at : ℕ) → Once (walk (suc n) nexts at) → occurrences_of at (walk n nexts (slice_index_or nexts at 0)) ≡ 0
 once-none n nexts at once = let all = occurrences_of-walk n at nexts at in let most = once at in let one = here-same at in omega (arith, all, most, one)
 
--- one place more behind the last
+-- one slot more after the last
 pub walk-lengthened : (n : ℕ) (nexts : List ℕ) (at new : ℕ) → Once (walk (suc n) nexts at) → end n nexts at < length nexts
     → walk (suc (suc n)) (slice_set nexts (end n nexts at) new) at ≡ walk (suc n) nexts at ++ new ∷ []
 unfolding walk end
@@ -115,7 +115,7 @@ walk-lengthened (suc n) nexts at new once inside =
     let e = get_or-set_other nexts (end n nexts next) at new 0 apart in
     rw e (ap (λ xs. at ∷ xs) (walk-lengthened n nexts next new (once-next (suc n) nexts at once) inside))
 
--- which place is the j-th
+-- which slot is the j-th
 pub walk-there : (n j : ℕ) (nexts : List ℕ) (at : ℕ) → j < n → 1 ≤ occurrences_of (slice_index_or (walk n nexts at) j 0) (walk n nexts at)
 unfolding walk
 walk-there zero j nexts at less = absurd (omega (arith, less))
@@ -125,7 +125,7 @@ walk-there (suc n) (suc j) nexts at less =
     let all = occurrences_of-walk n (slice_index_or (walk n nexts (slice_index_or nexts at 0)) j 0) nexts at in
     omega (arith, rest, all)
 
--- the next place of one that isn't the last stands behind it
+-- the next slot of one that isn't the last stands after it
 pub walk-next : (n j : ℕ) (nexts : List ℕ) (at : ℕ) → suc j < n → slice_index_or (walk n nexts at) (suc j) 0 ≡ slice_index_or nexts (slice_index_or (walk n nexts at) j 0) 0
 unfolding walk
 walk-next zero j nexts at less = absurd (omega (arith, less))
@@ -133,10 +133,10 @@ walk-next (suc zero) j nexts at less = absurd (omega (arith, less))
 walk-next (suc (suc n)) zero nexts at less = refl
 walk-next (suc (suc n)) (suc j) nexts at less = walk-next (suc n) j nexts (slice_index_or nexts at 0) (omega (arith, less))
 
--- the j-th place takes over what stands at the next one, which goes
+-- the j-th slot takes over what stands at the next one, which goes
 pub record IsShorter (n j : ℕ) (nexts frames : List ℕ) (at : ℕ) (newer : List ℕ) (given : List ℕ) (gone : ℕ) : Type 0 where
   pub chain : frames_at given (walk n newer at) ≡ remove (frames_at frames (walk (suc n) nexts at)) j
-  pub places : (i : ℕ) → occurrences_of i (walk n newer at) + here i gone ≡ occurrences_of i (walk (suc n) nexts at)
+  pub slots : (i : ℕ) → occurrences_of i (walk n newer at) + here i gone ≡ occurrences_of i (walk (suc n) nexts at)
 
 pub walk-shortened : (n j : ℕ) (nexts frames : List ℕ) (at p : ℕ) → j ≤ n → p ≡ slice_index_or (walk (suc (suc n)) nexts at) j 0 → Once (walk (suc (suc n)) nexts at)
     → p < length nexts → p < length frames
@@ -146,7 +146,7 @@ walk-shortened n zero nexts frames at p le e once inside framed =
     subst (λ (p : ℕ). IsShorter (suc n) 0 nexts frames at (slice_set nexts p (slice_index_or nexts (slice_index_or nexts p 0) 0)) (slice_set frames p (slice_index_or frames (slice_index_or nexts p 0) 0)) (slice_index_or nexts p 0)) (sym e)
     (record {
       chain = rw (first, rest) (rw front (ap (λ l. slice_index_or frames next 0 ∷ l) (frames-agree tail frames given (agree-set tail frames at (slice_index_or frames next 0) none))));
-      places = λ i. rw (first, rest)
+      slots = λ i. rw (first, rest)
           (let a = occurrences_of-cons i at tail in let b = occurrences_of-cons i at (next ∷ tail) in let c = occurrences_of-cons i next tail in omega (arith, a, b, c));
     })
   where
@@ -178,42 +178,42 @@ walk-shortened (suc n) (suc j) nexts frames at p le e once inside framed =
     let next : ℕ = slice_index_or nexts at 0 in
     let later : 1 ≤ occurrences_of p (walk (suc (suc n)) nexts next) = rw e (walk-there (suc (suc n)) j nexts next (omega (arith, le))) in
     let apart : at ≢ p = once-later (suc (suc n)) nexts at p once later in
-    let behind = walk-shortened n j nexts frames next p (omega (arith, le)) e (once-next (suc (suc n)) nexts at once) inside framed in
+    let following = walk-shortened n j nexts frames next p (omega (arith, le)) e (once-next (suc (suc n)) nexts at once) inside framed in
     let first = get_or-set_other nexts p at (slice_index_or nexts (slice_index_or nexts p 0) 0) 0 apart in
     let front = get_or-set_other frames p at (slice_index_or frames (slice_index_or nexts p 0) 0) 0 apart in
     record {
-      chain = rw (first, front) (ap (λ l. slice_index_or frames at 0 ∷ l) behind.chain);
-      places = λ i. rw first
-          (let a = occurrences_of-cons i at (walk (suc n) (slice_set nexts p (slice_index_or nexts (slice_index_or nexts p 0) 0)) next) in let b = occurrences_of-cons i at (walk (suc (suc n)) nexts next) in let c = behind.places i in omega (arith, a, b, c));
+      chain = rw (first, front) (ap (λ l. slice_index_or frames at 0 ∷ l) following.chain);
+      slots = λ i. rw first
+          (let a = occurrences_of-cons i at (walk (suc n) (slice_set nexts p (slice_index_or nexts (slice_index_or nexts p 0) 0)) next) in let b = occurrences_of-cons i at (walk (suc (suc n)) nexts next) in let c = following.slots i in omega (arith, a, b, c));
     }
 
--- the last place goes
+-- the last slot goes
 pub walk-cut : (n : ℕ) (nexts frames : List ℕ) (at : ℕ) → IsShorter n n nexts frames at nexts frames (slice_index_or (walk (suc n) nexts at) n 0)
 unfolding walk
-walk-cut zero nexts frames at = record { chain = refl; places = λ i. let a = occurrences_of-cons i at [] in omega (arith, a) }
+walk-cut zero nexts frames at = record { chain = refl; slots = λ i. let a = occurrences_of-cons i at [] in omega (arith, a) }
 walk-cut (suc n) nexts frames at =
     let next = slice_index_or nexts at 0 in
-    let behind = walk-cut n nexts frames next in
+    let following = walk-cut n nexts frames next in
     record {
-      chain = ap (λ l. slice_index_or frames at 0 ∷ l) behind.chain;
-      places = λ i. let a = occurrences_of-cons i at (walk n nexts next) in let b = occurrences_of-cons i at (walk (suc n) nexts next) in let c = behind.places i in omega (arith, a, b, c);
+      chain = ap (λ l. slice_index_or frames at 0 ∷ l) following.chain;
+      slots = λ i. let a = occurrences_of-cons i at (walk n nexts next) in let b = occurrences_of-cons i at (walk (suc n) nexts next) in let c = following.slots i in omega (arith, a, b, c);
     }
 
--- one place further on
+-- one slot further on
 pub end-step : (g k : ℕ) (nexts : List ℕ) (at : ℕ) → k < g → end (g - k) nexts at ≡ end (g - (k + 1)) nexts (slice_index_or nexts at 0)
 end-step g k nexts at less = let e : g - k ≡ suc (g - (k + 1)) = omega arith in rw e (end-more (g - (k + 1)) nexts at)
 
-pub within-first : (n bound : ℕ) (nexts : List ℕ) (at : ℕ) → All (λ place. place < bound) (walk (n + 1) nexts at) → at < bound
+pub within-first : (n bound : ℕ) (nexts : List ℕ) (at : ℕ) → All (λ slot. slot < bound) (walk (n + 1) nexts at) → at < bound
 unfolding walk
 within-first n bound nexts at all =
     let e : n + 1 ≡ suc n = omega arith in
-    All-head (λ (place : ℕ). place < bound) at (walk n nexts (slice_index_or nexts at 0)) (subst (λ (m : ℕ). All (λ place. place < bound) (walk m nexts at)) e all)
+    All-head (λ (slot : ℕ). slot < bound) at (walk n nexts (slice_index_or nexts at 0)) (subst (λ (m : ℕ). All (λ slot. slot < bound) (walk m nexts at)) e all)
 
-pub within-step : (g k bound : ℕ) (nexts : List ℕ) (at : ℕ) → k < g → All (λ place. place < bound) (walk (g - k + 1) nexts at) → All (λ place. place < bound) (walk (g - (k + 1) + 1) nexts (slice_index_or nexts at 0))
+pub within-step : (g k bound : ℕ) (nexts : List ℕ) (at : ℕ) → k < g → All (λ slot. slot < bound) (walk (g - k + 1) nexts at) → All (λ slot. slot < bound) (walk (g - (k + 1) + 1) nexts (slice_index_or nexts at 0))
 unfolding walk
 within-step g k bound nexts at less all =
     let e : g - k + 1 ≡ suc (g - (k + 1) + 1) = omega arith in
-    All-tail (λ (place : ℕ). place < bound) at (walk (g - (k + 1) + 1) nexts (slice_index_or nexts at 0)) (subst (λ (m : ℕ). All (λ place. place < bound) (walk m nexts at)) e all)
+    All-tail (λ (slot : ℕ). slot < bound) at (walk (g - (k + 1) + 1) nexts (slice_index_or nexts at 0)) (subst (λ (m : ℕ). All (λ slot. slot < bound) (walk m nexts at)) e all)
 
 -- an element of a list stands in it
 pub stands : (xs : List ℕ) (i d : ℕ) → i < length xs → 1 ≤ occurrences_of (slice_index_or xs i d) xs
@@ -224,9 +224,9 @@ stands (x ∷ xs) (suc i) d less =
     let all = occurrences_of-cons (slice_index_or xs i d) x xs in
     omega (arith, rest, all)
 
--- one of the places of a list is written
-pub apart-set : (places old : List ℕ) (p v : ℕ) → 1 ≤ occurrences_of p places → (i : ℕ) → occurrences_of i places ≡ 0 → slice_index_or (slice_set old p v) i 0 ≡ slice_index_or old i 0
-apart-set places old p v some i none = get_or-set_other old p i v 0 (λ same. occurrences_of-apart i p places none some (sym same))
+-- one of the slots of a list is written
+pub apart-set : (slots old : List ℕ) (p v : ℕ) → 1 ≤ occurrences_of p slots → (i : ℕ) → occurrences_of i slots ≡ 0 → slice_index_or (slice_set old p v) i 0 ≡ slice_index_or old i 0
+apart-set slots old p v some i none = get_or-set_other old p i v 0 (λ same. occurrences_of-apart i p slots none some (sym same))
 
 -- one more of some groups
 pub walk-grown : (g : ℕ) (nexts : List ℕ) (at new : ℕ) → 1 ≤ g → Once (walk g nexts at) → end (g - 1) nexts at < length nexts
@@ -242,17 +242,17 @@ pub end-stands : (g : ℕ) (nexts : List ℕ) (at : ℕ) → 1 ≤ g → 1 ≤ o
 end-stands zero nexts at some = absurd (omega (arith, some))
 end-stands (suc m) nexts at some = let e : suc m - 1 ≡ m = omega arith in rw e (end-there m nexts at)
 
--- a walk that goes on, so many places before its end
+-- a walk that goes on, so many slots before its end
 pub walk-on : (g k : ℕ) (nexts : List ℕ) (at : ℕ) → k < g → walk (g - k) nexts at ≡ at ∷ walk (g - (k + 1)) nexts (slice_index_or nexts at 0)
 walk-on g k nexts at less = let e : g - k ≡ suc (g - (k + 1)) = omega arith in rw e (walk-more (g - (k + 1)) nexts at)
 
-pub on-inside : (g k bound : ℕ) (nexts : List ℕ) (at : ℕ) → k < g → All (λ place. place < bound) (walk (g - k) nexts at) → at < bound
+pub on-inside : (g k bound : ℕ) (nexts : List ℕ) (at : ℕ) → k < g → All (λ slot. slot < bound) (walk (g - k) nexts at) → at < bound
 on-inside g k bound nexts at less all =
-    All-head (λ (place : ℕ). place < bound) at (walk (g - (k + 1)) nexts (slice_index_or nexts at 0)) (subst (λ (xs : List ℕ). All (λ place. place < bound) xs) (walk-on g k nexts at less) all)
+    All-head (λ (slot : ℕ). slot < bound) at (walk (g - (k + 1)) nexts (slice_index_or nexts at 0)) (subst (λ (xs : List ℕ). All (λ slot. slot < bound) xs) (walk-on g k nexts at less) all)
 
-pub on-within : (g k bound : ℕ) (nexts : List ℕ) (at : ℕ) → k < g → All (λ place. place < bound) (walk (g - k) nexts at) → All (λ place. place < bound) (walk (g - (k + 1)) nexts (slice_index_or nexts at 0))
+pub on-within : (g k bound : ℕ) (nexts : List ℕ) (at : ℕ) → k < g → All (λ slot. slot < bound) (walk (g - k) nexts at) → All (λ slot. slot < bound) (walk (g - (k + 1)) nexts (slice_index_or nexts at 0))
 on-within g k bound nexts at less all =
-    All-tail (λ (place : ℕ). place < bound) at (walk (g - (k + 1)) nexts (slice_index_or nexts at 0)) (subst (λ (xs : List ℕ). All (λ place. place < bound) xs) (walk-on g k nexts at less) all)
+    All-tail (λ (slot : ℕ). slot < bound) at (walk (g - (k + 1)) nexts (slice_index_or nexts at 0)) (subst (λ (xs : List ℕ). All (λ slot. slot < bound) xs) (walk-on g k nexts at less) all)
 
 -- what was passed and what is ahead
 pub ahead-first : (g k : ℕ) (nexts : List ℕ) (at now : ℕ) → k < g → ((j : ℕ) → slice_index_or (walk g nexts at) (k + j) 0 ≡ slice_index_or (walk (g - k) nexts now) j 0) → slice_index_or (walk g nexts at) k 0 ≡ now

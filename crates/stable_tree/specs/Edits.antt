@@ -4,9 +4,9 @@ use Rattle.std.specs.List.{concat}
 use Rattle.frame_arena.specs.Pages.{page_at}
 use Rattle.stable_tree.specs.declared.store.Store.{Store}
 use Rattle.stable_tree.specs.Groups.{IsCutAt, is_there, has}
-use Rattle.stable_tree.specs.Places.{IsHead, IsWithout, chain_at, chains_in}
+use Rattle.stable_tree.specs.Slots.{IsHead, IsWithout, chain_at, chains_in}
 
--- a place at which the chain of a content hangs
+-- a slot at which the chain of a content hangs
 pub record IsFound (arena : List (List ℕ)) (frame : ℕ) (store : Store) (at : ℕ) : Type 0 where
   pub k : ℕ
   pub cut : IsCutAt arena (page_at arena frame) (chains_in store) k
@@ -36,10 +36,10 @@ pub data IsTakenOut (arena : List (List ℕ)) (frame : ℕ) (old new : List (Lis
   nowhere : All (λ group. group ≢ frame) (filter (has arena (page_at arena frame)) (concat old)) → new ≡ old → before ≡ 0 → IsTakenOut arena frame old new before
   alone : (k : ℕ) → k < length old → length (slice_index_or old k []) ≡ 1 → slice_index_or (slice_index_or old k []) 0 0 ≡ frame
       → new ≡ remove old k → before ≡ 1 → IsTakenOut arena frame old new before
-  shortened : (k place : ℕ) → k < length old → place < length (slice_index_or old k []) → slice_index_or (slice_index_or old k []) place 0 ≡ frame
-      → 2 ≤ length (slice_index_or old k []) → new ≡ slice_set old k (remove (slice_index_or old k []) place) → before ≡ length (slice_index_or old k []) → IsTakenOut arena frame old new before
+  shortened : (k slot : ℕ) → k < length old → slot < length (slice_index_or old k []) → slice_index_or (slice_index_or old k []) slot 0 ≡ frame
+      → 2 ≤ length (slice_index_or old k []) → new ≡ slice_set old k (remove (slice_index_or old k []) slot) → before ≡ length (slice_index_or old k []) → IsTakenOut arena frame old new before
 
--- a frame is taken out of the groups that hang at a place, where there were so many; none where it wasn't there
+-- a frame is taken out of the groups that hang at a slot, where there were so many; none where it wasn't there
 pub data IsShortened (old new : Store) (at frame before : ℕ) : Type 0 where
   missing : All (λ group. group ≢ frame) (chain_at old.frames.items old.nexts.items old.sizes.items at) → chains_in new ≡ chains_in old → before ≡ 0 → IsShortened old new at frame before
   shorter : (j : ℕ) → j < slice_index_or old.sizes.items at 0 → slice_index_or (chain_at old.frames.items old.nexts.items old.sizes.items at) j 0 ≡ frame → 2 ≤ slice_index_or old.sizes.items at 0

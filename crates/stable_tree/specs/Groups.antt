@@ -91,4 +91,4 @@ is_there arena bytes chains k = nat_lt k (length chains) && bytes_eq (content ar
 pub record IsCutAt (arena : List (List ℕ)) (bytes : List ℕ) (chains : List (List ℕ)) (k : ℕ) : Type 0 where
   pub inside : k ≤ length chains
   pub before : (i : ℕ) → i < k → is_before arena bytes (slice_index_or chains i []) ≡ true
-  pub behind : (i : ℕ) → k ≤ i → i < length chains → is_before arena bytes (slice_index_or chains i []) ≡ false
+  pub following : (i : ℕ) → k ≤ i → i < length chains → is_before arena bytes (slice_index_or chains i []) ≡ false

@@ -1,4 +1,4 @@
 pub mod Groups
-pub mod Places
+pub mod Slots
 pub mod Edits
 pub mod Digits

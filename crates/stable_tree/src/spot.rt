@@ -1,6 +1,6 @@
 //! Where the groups of a content stand.
 ghost use Rattle.std.specs.Prelude.{◌≡◌, ◌<◌, nat_lt, find, length, slice_index_or, All};
-ghost use Rattle.stable_tree.specs.Places.{IsStore, IsHead, chain_at};
+ghost use Rattle.stable_tree.specs.Slots.{IsStore, IsHead, chain_at};
 
 use crate::store::{Store, first_below};
 use std::marker::Model;
@@ -11,35 +11,35 @@ use std::marker::Model;
 pub struct Spot<'a> {
     frames: &'a [u32],
     nexts: &'a [u32],
-    /// The place of the earliest group.
-    place: u32,
+    /// The slot of the earliest group.
+    slot: u32,
     groups: u32,
 }
 
 impl<'a> Model for Spot<'a> {
     ghost use Rattle.std.specs.Prelude.{◌≡◌, ◌<◌, ℕ, List, All, length};
-    ghost use Rattle.stable_tree.specs.Places.{walk, frames_at};
+    ghost use Rattle.stable_tree.specs.Slots.{walk, frames_at};
 
     ghost Value = { List ℕ };
 
-    ghost view = { λ spot. frames_at spot.frames.now (walk spot.groups spot.nexts.now spot.place) };
+    ghost view = { λ spot. frames_at spot.frames.now (walk spot.groups spot.nexts.now spot.slot) };
 
-    ghost invariant = { λ spot. All (λ place. place < length spot.frames.now) (walk spot.groups spot.nexts.now spot.place)
+    ghost invariant = { λ spot. All (λ slot. slot < length spot.frames.now) (walk spot.groups spot.nexts.now spot.slot)
         × (length spot.nexts.now ≡ length spot.frames.now) };
 }
 
 impl<'a> Spot<'a> {
-    /// The groups that hang at a place of a store.
-    pub(crate) fn at(store: &'a Store, place: u32) -> Spot<'a>
+    /// The groups that hang at a slot of a store.
+    pub(crate) fn at(store: &'a Store, slot: u32) -> Spot<'a>
         requires whole { IsStore store.now }
-        requires head { IsHead store.now place }
-        ensures { result ≡ chain_at store.now.frames.items store.now.nexts.items store.now.sizes.items place }
+        requires head { IsHead store.now slot }
+        ensures { result ≡ chain_at store.now.frames.items store.now.nexts.items store.now.sizes.items slot }
     {
-        let groups = store.sizes[place as usize];
+        let groups = store.sizes[slot as usize];
         Spot {
             frames: &store.frames,
             nexts: &store.nexts,
-            place,
+            slot,
             groups,
         }
     }
@@ -52,7 +52,7 @@ impl<'a> Spot<'a> {
         first_below(
             self.frames,
             self.nexts,
-            self.place,
+            self.slot,
             self.groups,
             counts,
             limit,

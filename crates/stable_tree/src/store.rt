@@ -1,11 +1,11 @@
-//! Groups at places. Those of one content hang at the place of a node of a balanced tree: the node's place has
-//! the earliest one, and each tells the place of the next. A place that a group leaves is used again.
+//! Groups at slots. Those of one content hang at the slot of a node of a balanced tree: the node's slot has
+//! the earliest one, and each gives the slot of the next. A slot that a group leaves is used again.
 ghost use Rattle.std.specs.Prelude.{◌≡◌, ◌≢◌, ◌+◌, ◌-◌, ◌*◌, ◌<◌, ◌≤◌, ℕ, false, List, [], ◌∷◌, ◌++◌, All, MatchOption, OnOk, OnErr, find, length, max, nat_lt, slice_index_or};
 ghost use Rattle.std.specs.List.{concat};
 ghost use Rattle.tree_shape.specs.Removals.{is_alone};
 ghost use Rattle.stable_tree.specs.Digits.{digits};
 ghost use Rattle.stable_tree.specs.Groups.{IsSorted};
-ghost use Rattle.stable_tree.specs.Places.{IsStore, IsWholeStore, IsPlaced, IsHead, IsLengthened, IsStanding, IsWithout, walk, end, hanging, frames_at, heads_in, chains_in};
+ghost use Rattle.stable_tree.specs.Slots.{IsStore, IsWholeStore, IsAdded, IsHead, IsLengthened, IsStanding, IsWithout, walk, end, hanging, frames_at, heads_in, chains_in};
 ghost use Rattle.stable_tree.specs.Edits.{IsSearchAnswer, IsPut, IsTakenOut, IsShortened};
 
 use frame_arena::Counted;
@@ -14,22 +14,22 @@ use tree_shape::removal::{Removed, take_out};
 use tree_shape::search::{Entered, enter};
 use tree_shape::{NONE, Node};
 
-/// The places, by what stands at each.
+/// The slots, by what stands at each.
 #[derive(Drop)]
 pub(crate) struct Store {
-    /// The tree's node, at the place of a content's earliest group.
+    /// The tree's node, at the slot of a content's earliest group.
     pub nodes: Vec<Node>,
     /// The group's frame.
     pub frames: Vec<u32>,
-    /// The place of the next group of the same content.
+    /// The slot of the next group of the same content.
     pub nexts: Vec<u32>,
-    /// How many groups the content has, at the place of its earliest group.
+    /// How many groups the content has, at the slot of its earliest group.
     pub sizes: Vec<u32>,
-    /// The places that no group has.
+    /// The slots that no group has.
     pub free: Vec<u32>,
-    /// The place of the tree's first node.
+    /// The slot of the tree's first node.
     pub root: u32,
-    /// How many places there is memory for.
+    /// How many slots there is memory for.
     pub room: usize,
 }
 
@@ -57,8 +57,8 @@ pub(crate) fn new(alloc: Global) -> Store
     }
 }
 
-/// Makes room for that many groups in all. It is refused where memory ran out, or where a link can't tell that
-/// many places.
+/// Makes room for that many groups in all. It is refused where memory ran out, or where a link can't say that
+/// many slots.
 pub(crate) fn reserve(store: &mut Store, groups: usize) -> Result<(), AllocError>
     requires { IsStore store.old }
     ensures whole { IsStore store.new }
@@ -83,20 +83,20 @@ pub(crate) fn reserve(store: &mut Store, groups: usize) -> Result<(), AllocError
     Ok(())
 }
 
-/// Gives a new group a place of its own, which hangs nowhere yet. It takes no memory.
-pub(crate) fn place(store: &mut Store, frame: u32) -> u32
+/// Gives a new group its own slot, which hangs nowhere yet. It takes no memory.
+pub(crate) fn slot(store: &mut Store, frame: u32) -> u32
     requires whole { IsStore store.old }
     requires room { length (concat (chains_in store.old)) < store.old.room }
-    ensures { IsPlaced store.old store.new frame result }
+    ensures { IsAdded store.old store.new frame result }
 {
     match store.free.pop() {
-        Some(place) => {
-            store.frames[place as usize] = frame;
-            store.sizes[place as usize] = 1;
-            place
+        Some(slot) => {
+            store.frames[slot as usize] = frame;
+            store.sizes[slot as usize] = 1;
+            slot
         }
         None => {
-            let place = store.nodes.len() as u32;
+            let slot = store.nodes.len() as u32;
             let noded = store.nodes.push(BLANK).is_ok();
             prove!(noded);
             let framed = store.frames.push(frame).is_ok();
@@ -105,15 +105,15 @@ pub(crate) fn place(store: &mut Store, frame: u32) -> u32
             prove!(linked);
             let sized = store.sizes.push(1).is_ok();
             prove!(sized);
-            place
+            slot
         }
     }
 }
 
-/// The place of the last group of a content.
+/// The slot of the last group of a content.
 fn last_of(nexts: &[u32], at: u32, groups: u32) -> u32
     requires some { 1 ≤ groups }
-    requires within { All (λ place. place < length nexts.now) (walk groups nexts.now at) }
+    requires within { All (λ slot. slot < length nexts.now) (walk groups nexts.now at) }
     ensures { result ≡ end (groups - 1) nexts.now at }
 {
     let mut last = at;
@@ -123,23 +123,23 @@ fn last_of(nexts: &[u32], at: u32, groups: u32) -> u32
     last
 }
 
-/// Puts a place behind the groups of a content. Tells how many it had.
-pub(crate) fn lengthen(store: &mut Store, at: u32, place: u32) -> u32
-    requires whole { IsWholeStore store.old (place ∷ store.old.free.items) }
+/// Puts a slot after the groups of a content. Returns how many it had.
+pub(crate) fn lengthen(store: &mut Store, at: u32, slot: u32) -> u32
+    requires whole { IsWholeStore store.old (slot ∷ store.old.free.items) }
     requires head { IsHead store.old at }
     ensures whole { IsStore store.new }
     ensures chains { (earlier later : List ℕ) → heads_in store.old ≡ earlier ++ at ∷ later
-        → IsLengthened store.old store.new at place (length earlier) result }
+        → IsLengthened store.old store.new at slot (length earlier) result }
     ensures room { store.new.room ≡ store.old.room }
 {
     let groups = store.sizes[at as usize];
     let last = last_of(&store.nexts, at, groups);
-    store.nexts[last as usize] = place;
+    store.nexts[last as usize] = slot;
     store.sizes[at as usize] = groups + 1;
     groups
 }
 
-/// The place at which the groups of a frame's content hang.
+/// The slot at which the groups of a frame's content hang.
 pub(crate) fn find(store: &Store, arena: &mut Counted, frame: u32) -> Option<u32>
     requires whole { IsStore store.now }
     requires frame { frame < length arena.old.pages }
@@ -151,7 +151,7 @@ pub(crate) fn find(store: &Store, arena: &mut Counted, frame: u32) -> Option<u32
     tree_shape::search::find(&store.nodes, &store.frames, arena, store.root, frame)
 }
 
-/// Puts a group behind all others that have its bytes. Tells how many these are.
+/// Puts a group after all others that have its bytes. Returns how many these are.
 pub(crate) fn put(store: &mut Store, arena: &mut Counted, frame: u32) -> u32
     requires whole { IsStore store.old }
     requires frame { frame < length arena.old.pages }
@@ -163,9 +163,9 @@ pub(crate) fn put(store: &mut Store, arena: &mut Counted, frame: u32) -> u32
     ensures pages { arena.new.pages ≡ arena.old.pages }
     ensures few { arena.new.steps ≤ arena.old.steps + 2 * digits (length (chains_in store.old)) }
 {
-    let place = place(store, frame);
-    match enter(&mut store.nodes, &store.frames, arena, store.root, place) {
-        Entered::There(at) => lengthen(store, at, place),
+    let slot = slot(store, frame);
+    match enter(&mut store.nodes, &store.frames, arena, store.root, slot) {
+        Entered::There(at) => lengthen(store, at, slot),
         Entered::Root(root) => {
             store.root = root;
             0
@@ -176,77 +176,77 @@ pub(crate) fn put(store: &mut Store, arena: &mut Counted, frame: u32) -> u32
 /// Where a group stands among those of its content.
 #[derive(Clone, Copy, Debug, PartialEq, Eq)]
 struct Standing {
-    pub place: u32,
-    /// How many groups stand behind it.
-    pub behind: u32,
+    pub slot: u32,
+    /// How many groups stand after it.
+    pub following: u32,
 }
 
-/// Where a frame stands among the groups of a content, `groups` in number from a place on.
-fn place_of(frames: &[u32], nexts: &[u32], at: u32, groups: u32, frame: u32) -> Option<Standing>
-    requires framed { All (λ place. place < length frames.now) (walk groups nexts.now at) }
+/// Where a frame stands among the groups of a content, `groups` in number from a slot on.
+fn slot_of(frames: &[u32], nexts: &[u32], at: u32, groups: u32, frame: u32) -> Option<Standing>
+    requires framed { All (λ slot. slot < length frames.now) (walk groups nexts.now at) }
     requires linked { length nexts.now ≡ length frames.now }
     ensures { MatchOption result (All (λ group. group ≢ frame) (frames_at frames.now (walk groups nexts.now at)))
-        (λ standing. IsStanding (walk groups nexts.now at) frames.now frame standing.place standing.behind) }
+        (λ standing. IsStanding (walk groups nexts.now at) frames.now frame standing.slot standing.following) }
 {
-    let mut place = at;
+    let mut slot = at;
     for passed in 0..groups {
-        if frames[place as usize] == frame {
+        if frames[slot as usize] == frame {
             return Some(Standing {
-                place,
-                behind: groups - 1 - passed,
+                slot,
+                following: groups - 1 - passed,
             });
         }
-        place = nexts[place as usize];
+        slot = nexts[slot as usize];
     }
     None
 }
 
-/// Makes a place free that hangs nowhere. It takes no memory.
-fn give_back(store: &mut Store, place: u32)
-    requires { IsWholeStore store.old (place ∷ store.old.free.items) }
+/// Makes a slot free that hangs nowhere. It takes no memory.
+fn give_back(store: &mut Store, slot: u32)
+    requires { IsWholeStore store.old (slot ∷ store.old.free.items) }
     ensures whole { IsStore store.new }
     ensures chains { chains_in store.new ≡ chains_in store.old }
     ensures room { store.new.room ≡ store.old.room }
 {
-    let kept = store.free.push(place).is_ok();
+    let kept = store.free.push(slot).is_ok();
     prove!(kept);
 }
 
 /// Takes out the last of two or more groups of a content.
-fn take_last(store: &mut Store, at: u32, place: u32)
+fn take_last(store: &mut Store, at: u32, slot: u32)
     requires whole { IsStore store.old }
     requires head { IsHead store.old at }
     requires more { 2 ≤ slice_index_or store.old.sizes.items at 0 }
-    requires last { place ≡ slice_index_or (hanging store.old.nexts.items store.old.sizes.items at)
+    requires last { slot ≡ slice_index_or (hanging store.old.nexts.items store.old.sizes.items at)
         (slice_index_or store.old.sizes.items at 0 - 1) 0 }
     ensures whole { IsStore store.new }
     ensures chains { IsWithout store.old store.new at (slice_index_or store.old.sizes.items at 0 - 1) }
     ensures room { store.new.room ≡ store.old.room }
 {
     store.sizes[at as usize] -= 1;
-    give_back(store, place);
+    give_back(store, slot);
 }
 
-/// Takes out a group that others of its content stand behind: the next one takes its place.
+/// Takes out a group that others of its content stand after: the next one takes its slot.
 fn take_inner(store: &mut Store, at: u32, standing: Standing)
     requires whole { IsStore store.old }
     requires head { IsHead store.old at }
-    requires behind { (1 ≤ standing.behind) × (standing.behind < slice_index_or store.old.sizes.items at 0) }
-    requires place { standing.place ≡ slice_index_or (hanging store.old.nexts.items store.old.sizes.items at)
-        (slice_index_or store.old.sizes.items at 0 - 1 - standing.behind) 0 }
+    requires following { (1 ≤ standing.following) × (standing.following < slice_index_or store.old.sizes.items at 0) }
+    requires slot { standing.slot ≡ slice_index_or (hanging store.old.nexts.items store.old.sizes.items at)
+        (slice_index_or store.old.sizes.items at 0 - 1 - standing.following) 0 }
     ensures whole { IsStore store.new }
-    ensures chains { IsWithout store.old store.new at (slice_index_or store.old.sizes.items at 0 - 1 - standing.behind) }
+    ensures chains { IsWithout store.old store.new at (slice_index_or store.old.sizes.items at 0 - 1 - standing.following) }
     ensures room { store.new.room ≡ store.old.room }
 {
-    let place = standing.place as usize;
-    let next = store.nexts[place];
-    store.frames[place] = store.frames[next as usize];
-    store.nexts[place] = store.nexts[next as usize];
+    let slot = standing.slot as usize;
+    let next = store.nexts[slot];
+    store.frames[slot] = store.frames[next as usize];
+    store.nexts[slot] = store.nexts[next as usize];
     store.sizes[at as usize] -= 1;
     give_back(store, next);
 }
 
-/// Takes a frame out of the groups of a content, if it is there and not alone. Tells how many these were, or 0 where
+/// Takes a frame out of the groups of a content, if it is there and not alone. Returns how many these were, or 0 where
 /// it isn't there.
 fn shorten(store: &mut Store, at: u32, frame: u32) -> u32
     requires whole { IsStore store.old }
@@ -257,18 +257,18 @@ fn shorten(store: &mut Store, at: u32, frame: u32) -> u32
     ensures room { store.new.room ≡ store.old.room }
 {
     let groups = store.sizes[at as usize];
-    let Some(standing) = place_of(&store.frames, &store.nexts, at, groups, frame) else {
+    let Some(standing) = slot_of(&store.frames, &store.nexts, at, groups, frame) else {
         return 0;
     };
-    if standing.behind == 0 {
-        take_last(store, at, standing.place);
+    if standing.following == 0 {
+        take_last(store, at, standing.slot);
     } else {
         take_inner(store, at, standing);
     }
     groups
 }
 
-/// Takes out a group, if it is there. Tells how many its content had, or 0 where it isn't there.
+/// Takes out a group, if it is there. Returns how many its content had, or 0 where it isn't there.
 pub(crate) fn take(store: &mut Store, arena: &mut Counted, frame: u32) -> u32
     requires whole { IsStore store.old }
     requires frame { frame < length arena.old.pages }
@@ -291,13 +291,13 @@ pub(crate) fn take(store: &mut Store, arena: &mut Counted, frame: u32) -> u32
         Removed::Stays(at) => shorten(store, at, frame),
         Removed::Out(taken) => {
             store.root = taken.root;
-            give_back(store, taken.place);
+            give_back(store, taken.slot);
             1
         }
     }
 }
 
-/// The first of some groups, from a place on, that fewer than `limit` hold.
+/// The first of some groups, from a slot on, that fewer than `limit` hold.
 pub(crate) fn first_below(
     frames: &[u32],
     nexts: &[u32],
@@ -306,18 +306,18 @@ pub(crate) fn first_below(
     counts: &[u32],
     limit: u32,
 ) -> Option<u32>
-    requires framed { All (λ place. place < length frames.now) (walk groups nexts.now at) }
+    requires framed { All (λ slot. slot < length frames.now) (walk groups nexts.now at) }
     requires linked { length nexts.now ≡ length frames.now }
     requires counted { All (λ frame. frame < length counts.now) (frames_at frames.now (walk groups nexts.now at)) }
     ensures { result ≡ find (λ frame. nat_lt (slice_index_or counts.now frame 0) limit) (frames_at frames.now (walk groups nexts.now at)) }
 {
-    let mut place = at;
+    let mut slot = at;
     for _passed in 0..groups {
-        let frame = frames[place as usize];
+        let frame = frames[slot as usize];
         if counts[frame as usize] < limit {
             return Some(frame);
         }
-        place = nexts[place as usize];
+        slot = nexts[slot as usize];
     }
     None
 }

@@ -20,7 +20,7 @@ pub struct StableTree {
 
 impl Model for StableTree {
     ghost use Rattle.stable_tree.specs.Groups.{Groups, AreDups};
-    ghost use Rattle.stable_tree.specs.Places.{IsStore, chains_in};
+    ghost use Rattle.stable_tree.specs.Slots.{IsStore, chains_in};
 
     ghost Value = { Groups };
 
@@ -81,8 +81,8 @@ impl StableTree {
         ensures spot { IfSome result (IsSpot self.now) }
         ensures few { arena.new.steps ≤ arena.old.steps + 2 * digits (length self.now.chains) }
     {
-        let place = store::find(&self.store, arena, frame)?;
-        Some(Spot::at(&self.store, place))
+        let slot = store::find(&self.store, arena, frame)?;
+        Some(Spot::at(&self.store, slot))
     }
 
     /// The earliest of the groups at a spot that fewer than `limit` hold. It goes over the spot's groups in
@@ -95,7 +95,7 @@ impl StableTree {
         spot.first_below(counts, limit)
     }
 
-    /// Puts a group behind all others that have its bytes. It takes no memory.
+    /// Puts a group after all others that have its bytes. It takes no memory.
     pub fn insert(&mut self, arena: &mut Counted, frame: u32)
         requires frame { frame < length arena.old.pages }
         requires sorted { IsSorted arena.old.pages self.old.chains }

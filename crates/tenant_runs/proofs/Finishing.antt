@@ -2,17 +2,17 @@
 use Rattle.std.proofs.Common.{◌≡◌, ◌<◌, ◌+◌, ℕ, zero, suc, List, Some, refl, ◌∙◌, arith, add-zero}
 use Rattle.host_types.specs.Tenant.{TenantPart}
 use Rattle.page_table.specs.State.{MemoryState}
-use Rattle.page_table.specs.Changes.{IsKeptBut}
+use Rattle.page_table.specs.Changes.{OtherTenantsUnchanged}
 use Rattle.bpf_decode.specs.Text.{instructions_of}
 use Rattle.verifier.specs.Verified.{Accepted, IsVerified}
 use Rattle.bpf_decode.specs.Text.{slots_of}
-use Rattle.bpf_decode.proofs.Placing.{instructions_later}
+use Rattle.bpf_decode.proofs.Numbering.{instructions_later}
 use Rattle.interp.specs.declared.need.Need.{Need}
 use Rattle.interp.proofs.Following.{is_at_instruction}
 use Rattle.interp.specs.Machine.{MachineState, Outcome, Next, step}
 use Rattle.interp.specs.Runs.{Reaches}
 use Rattle.interp.specs.StandsFor.{Running, StandsFor}
-use Rattle.tenant_runs.specs.Meeting.{KeepsSizes}
+use Rattle.tenant_runs.specs.Fulfilment.{KeepsSizes}
 use Rattle.tenant_runs.specs.UnderWay.{IsUnderWay, IsAsking, part_with_have}
 
 -- from a state for which the run stood, its steps lead to one in which it is under way
@@ -28,7 +28,7 @@ pub record IsFinishing (v : Accepted) (tenant : ℕ) (old : MemoryState) (start 
   pub verified : IsVerified v
   pub some : (s : MachineState) × IsUnderWay v start s (part_with_have old tenant)
   pub followed : (s : MachineState) → IsUnderWay v start s (part_with_have old tenant) → IsFollowed v start run s (part_with_have memory tenant)
-  pub others : IsKeptBut tenant old memory
+  pub others : OtherTenantsUnchanged tenant old memory
   pub sizes : KeepsSizes old memory
 
 pub begins_to_finish : (v : Accepted) (tenant : ℕ) (old : MemoryState) (start : Running) → IsVerified v → (s : MachineState) × IsUnderWay v start s (part_with_have old tenant) → IsFinishing v tenant old start old start

@@ -1,11 +1,11 @@
--- A run that goes on while its loads and stores are met, from one thing that it asks beside them to the next.
+-- A run that goes on while its loads and stores are fulfilled, from one thing that it asks beside them to the next.
 use Rattle.std.proofs.Common.{◌≡◌, ◌≤◌, ◌+◌, inl, inr, ℕ, zero, suc, true, length, refl, ap, ◌∙◌, arith}
 use Rattle.std.proofs.lemmas.List.{length-set}
 use Rattle.host_types.specs.Tenant.{TenantPart}
 use Rattle.bpf_decode.specs.declared.operation.Size.{Size}
 use Rattle.bpf_decode.specs.Text.{instructions_of}
 use Rattle.page_table.specs.State.{MemoryState, part, have_of}
-use Rattle.page_table.specs.Changes.{IsKeptBut, with_reserve}
+use Rattle.page_table.specs.Changes.{OtherTenantsUnchanged, with_reserve}
 use Rattle.admission.specs.Reserve.{needed_by, needed_from}
 use Rattle.admission.proofs.Falling.{needed_falls}
 use Rattle.verifier.specs.Reserve.{reserve_from}
@@ -16,8 +16,8 @@ use Rattle.interp.specs.declared.need.Need.TheVariants.{Private, Ended, Load, St
 use Rattle.interp.specs.Machine.{MachineState, Next, Exits}
 use Rattle.interp.specs.Runs.{Reaches}
 use Rattle.interp.specs.StandsFor.{Running, Asks}
-use Rattle.interp.specs.OnMaps.{IsRoomy, StandsOn, IsMet, ReachesOn, FollowsOn}
-use Rattle.tenant_runs.specs.Meeting.{KeepsSizes}
+use Rattle.interp.specs.OnMaps.{IsRoomy, StandsOn, IsFulfilled, ReachesOn, FollowsOn}
+use Rattle.tenant_runs.specs.Fulfilment.{KeepsSizes}
 use Rattle.tenant_runs.specs.Storing.{maps_of_part, HasStoreFrames, HasStored}
 use Rattle.tenant_runs.specs.UnderWay.{IsUnderWay, part_with_have}
 use Rattle.tenant_runs.proofs.Rooms.{keeps_after}
@@ -44,7 +44,7 @@ stands_on v tenant run s old new way recorded have =
 
 -- what steps on a tenant's maps keep
 pub record Keeps (tenant : ℕ) (old new : MemoryState) : Type 0 where
-  pub others : IsKeptBut tenant old new
+  pub others : OtherTenantsUnchanged tenant old new
   pub sizes : KeepsSizes old new
   pub maps : length (part new tenant).maps ≡ length (part old tenant).maps
 
@@ -58,15 +58,15 @@ stored_keeps tenant old new m at size number stored = record {
   maps = ap (λ (owned : TenantPart). length owned.maps) stored.owned ∙ length-set (part old tenant).maps m _;
 }
 
-met_keeps : (v : Accepted) (tenant : ℕ) (s t : MachineState) (old new : MemoryState) → IsMet (HasStored tenant) v s old t new → Keeps tenant old new
-met_keeps v tenant s t old new (inl private) = rw private.same (keeps_itself tenant old)
-met_keeps v tenant s t old new (inr made) = stored_keeps tenant old new made.map made.at made.size made.number made.stored
+fulfilled_keeps : (v : Accepted) (tenant : ℕ) (s t : MachineState) (old new : MemoryState) → IsFulfilled (HasStored tenant) v s old t new → Keeps tenant old new
+fulfilled_keeps v tenant s t old new (inl private) = rw private.same (keeps_itself tenant old)
+fulfilled_keeps v tenant s t old new (inr made) = stored_keeps tenant old new made.map made.at made.size made.number made.stored
 
 pub steps_keep : (v : Accepted) (tenant : ℕ) (s : MachineState) (old : MemoryState) (n : ℕ) (t : MachineState) (new : MemoryState) → ReachesOn (HasStored tenant) v s old n t new → Keeps tenant old new
 steps_keep v tenant s old zero t new (same, kept) = rw kept (keeps_itself tenant old)
-steps_keep v tenant s old (suc n) t new (u, between, reaches, makes, met) =
+steps_keep v tenant s old (suc n) t new (u, between, reaches, makes, fulfilled) =
     let first = steps_keep v tenant s old n u between reaches in
-    let later = met_keeps v tenant u t between new met in
+    let later = fulfilled_keeps v tenant u t between new fulfilled in
     record {
       others = λ w other. later.others w other ∙ first.others w other;
       sizes = record { tenants = later.sizes.tenants ∙ first.sizes.tenants; frames = later.sizes.frames ∙ first.sizes.frames };
@@ -76,7 +76,7 @@ steps_keep v tenant s old (suc n) t new (u, between, reaches, makes, met) =
 -- they are steps
 pub steps_reach : (v : Accepted) (tenant : ℕ) (s : MachineState) (old : MemoryState) (n : ℕ) (t : MachineState) (new : MemoryState) → ReachesOn (HasStored tenant) v s old n t new → Reaches v.subject.text s n (Next t)
 steps_reach v tenant s old zero t new (same, kept) = ap Next same
-steps_reach v tenant s old (suc n) t new (u, between, reaches, makes, met) = (u, steps_reach v tenant s old n u between reaches, makes)
+steps_reach v tenant s old (suc n) t new (u, between, reaches, makes, fulfilled) = (u, steps_reach v tenant s old n u between reaches, makes)
 
 no_less : {need have : ℕ} (reserve : ℕ) → need ≤ have → need ≤ have + reserve
 no_less reserve enough = omega (arith, enough)
@@ -132,7 +132,7 @@ ended_later v tenant start run after s number n owned old new followed (made, t,
       keeps = steps_keep v tenant followed.state old made t new reaches;
     }
 
--- the tenant of a run under way has eight places for maps, also once all that is reserved may be had
+-- the tenant of a run under way has eight entries for maps, also once all that is reserved may be had
 pub eight_there : (v : Accepted) (tenant : ℕ) (run : Running) (s : MachineState) (memory : MemoryState) → IsUnderWay v run s (part_with_have memory tenant) → length (part memory tenant).maps ≡ 8
 eight_there v tenant run s memory way = rw way.maps way.stands.state.maps.eight
 

@@ -1,4 +1,4 @@
--- What a store of a tenant's open run takes, and what the rest of the run needs behind it, was needed before.
+-- What a store of a tenant's open run takes, and what the rest of the run needs after it, was needed before.
 use Rattle.std.proofs.Common.{◌≡◌, ◌≤◌, ◌<◌, ◌+◌, ◌*◌, ◌/◌, ◌==◌, inl, inr, ℕ, zero, suc, nat_le, nat_lt, Bool, true, false, if◌then◌else◌, List, [], ◌∷◌, length, slice_set, Option, Some, None, option_map, unwrap_or, refl, sym, ap, ◌∙◌, arith}
 use Rattle.std.proofs.lemmas.Bool.{cases_lt}
 use Rattle.std.proofs.lemmas.Bool.Decides.{nat_tests}
@@ -15,7 +15,7 @@ use Rattle.page_table.specs.Changes.{pages_of_map}
 use Rattle.page_table.specs.Limits.{page_count}
 use Rattle.page_table.specs.Reads.{ReadsAs}
 use Rattle.page_table.specs.State.{MemoryState, part, have_of}
-use Rattle.write_break.specs.Stores.{touched, place_of_byte, pinned_as, stored_sharing, store_frames}
+use Rattle.write_break.specs.Stores.{touched, page_of_byte, with_pins_of, stored_sharing, store_frames}
 use Rattle.write_break.proofs.Stores.{touched-within}
 use Rattle.map_helpers.specs.Updates.{update_frames}
 use Rattle.map_helpers.proofs.Charges.{touched-charged}
@@ -31,18 +31,18 @@ use Rattle.interp.specs.declared.need.Need.TheVariants.{Private, Ended, Load, St
 use Rattle.interp.specs.Machine.{MachineState}
 use Rattle.interp.specs.Needs.{LieInMap, map_stored, maps_after}
 use Rattle.interp.specs.StandsFor.{Running, Asks, AreAmong}
-use Rattle.tenant_runs.specs.Meeting.{frames_met, part_met, sharing_met}
+use Rattle.tenant_runs.specs.Fulfilment.{frames_fulfilled, part_fulfilled, sharing_fulfilled}
 use Rattle.tenant_runs.specs.UnderWay.{IsAsking, part_with_have}
 use Rattle.tenant_runs.proofs.Rooms.{in_page}
 
 -- ---- what a store leaves of a part
 
--- a tenant's pins are those of its places
+-- a tenant's pins are those of its pages
 pub own_pins : (memory : MemoryState) (t : ℕ) → (part memory t).pins ≡ part_of memory.sharing.pins (t * 2048) 2048
 unfolding part
 own_pins memory t = refl
 
-pub pinned_itself : (memory : MemoryState) (t : ℕ) → part memory t ≡ pinned_as memory.sharing t (part memory t)
+pub pinned_itself : (memory : MemoryState) (t : ℕ) → part memory t ≡ with_pins_of memory.sharing t (part memory t)
 unfolding part
 pinned_itself memory t = refl
 
@@ -102,9 +102,9 @@ stored_pays memory t m at n charge total less writes fewer there after reads fla
     let few = few_there (part memory t).maps m there flat.eight found in
     let inside : at / 4096 + touched at n ≤ page_count there.shape = touched_inside at n (byte_len_of there.shape) (omega (arith, within, sized)) in
     let counted : pages_of_map (part memory t) m ≡ page_count there.shape = ap pages_in found in
-    let above : t * 2048 + m * 256 ≤ place_of_byte t m at = omega arith in
-    let below : place_of_byte t m at + touched at n ≤ t * 2048 + m * 256 + pages_of_map (part memory t) m = omega (arith, inside, counted) in
-    needed_pays memory.sharing t (place_of_byte t m at) (touched at n) charge total less m writes fewer (part memory t) after reads.pinned (own_pins memory t) pins pages (few_of_map (part memory t) flat) among few marked above below charged falls
+    let above : t * 2048 + m * 256 ≤ page_of_byte t m at = omega arith in
+    let below : page_of_byte t m at + touched at n ≤ t * 2048 + m * 256 + pages_of_map (part memory t) m = omega (arith, inside, counted) in
+    needed_pays memory.sharing t (page_of_byte t m at) (touched at n) charge total less m writes fewer (part memory t) after reads.pinned (own_pins memory t) pins pages (few_of_map (part memory t) flat) among few marked above below charged falls
 
 -- ---- what is asked takes
 
@@ -122,7 +122,7 @@ element_there shape key flags answered = elim (cases_lt key shape.entries) [
     by_flags true e = absurd (cc)
     by_flags false e = absurd (cc)
 
--- where nothing is written, no more is needed behind
+-- where nothing is written, no more is needed after
 quiet_pays : (v : Accepted) (s : MachineState) (run : Running) (memory : MemoryState) (t : ℕ) (after : TenantPart) (frames charge : ℕ) → frames ≡ 0 → charge + reserve_from v run.slot ≤ reserve_from v s.slot → AreAmong (writes_from v run.slot) (writes_from v s.slot)
     → after.pins ≡ part_of memory.sharing.pins (t * 2048) 2048 → ((k : ℕ) → pages_of_map after k ≡ pages_of_map (part memory t) k)
     → frames + needed_from v after run.slot ≤ needed_from v (part memory t) s.slot
@@ -131,19 +131,19 @@ quiet_pays v s run memory t after frames charge none charged among pins pages =
     let falls = needed_falls (reserve_from v s.slot) (reserve_from v run.slot) (writes_from v s.slot) (writes_from v run.slot) (part memory t) (omega (arith, charged)) among in
     omega (arith, none, same, falls)
 
--- What a run asks, and what the rest of the run needs behind it, was needed before.
-pub met_pays : (v : Accepted) (s : MachineState) (need : Need) (run : Running) (memory : MemoryState) (t : ℕ) (after : TenantPart) → ReadsAs memory → AreFlatMaps (part memory t).maps → IsAsking v s need run (part_with_have memory t)
-    → after.pins ≡ part_of (sharing_met (part memory t) memory.sharing t need).pins (t * 2048) 2048 → ((k : ℕ) → pages_of_map after k ≡ pages_of_map (part memory t) k)
-    → frames_met (part memory t) memory.sharing t need + needed_from v after run.slot ≤ needed_from v (part memory t) s.slot
-met_pays v s Private run memory t after reads flat asking pins pages = absurd asking.asks.may
-met_pays v s (Ended number) run memory t after reads flat asking pins pages = absurd asking.asks.may
-met_pays v s (Load m at size) run memory t after reads flat asking pins pages =
+-- What a run asks, and what the rest of the run needs after it, was needed before.
+pub fulfilled_pays : (v : Accepted) (s : MachineState) (need : Need) (run : Running) (memory : MemoryState) (t : ℕ) (after : TenantPart) → ReadsAs memory → AreFlatMaps (part memory t).maps → IsAsking v s need run (part_with_have memory t)
+    → after.pins ≡ part_of (sharing_fulfilled (part memory t) memory.sharing t need).pins (t * 2048) 2048 → ((k : ℕ) → pages_of_map after k ≡ pages_of_map (part memory t) k)
+    → frames_fulfilled (part memory t) memory.sharing t need + needed_from v after run.slot ≤ needed_from v (part memory t) s.slot
+fulfilled_pays v s Private run memory t after reads flat asking pins pages = absurd asking.asks.may
+fulfilled_pays v s (Ended number) run memory t after reads flat asking pins pages = absurd asking.asks.may
+fulfilled_pays v s (Load m at size) run memory t after reads flat asking pins pages =
     quiet_pays v s run memory t after 0 0 refl asking.asks.charged asking.asks.fewer pins pages
-met_pays v s (Lookup m key) run memory t after reads flat asking pins pages =
+fulfilled_pays v s (Lookup m key) run memory t after reads flat asking pins pages =
     quiet_pays v s run memory t after 0 0 refl asking.asks.charged asking.asks.fewer pins pages
-met_pays v s (Delete m key) run memory t after reads flat asking pins pages =
+fulfilled_pays v s (Delete m key) run memory t after reads flat asking pins pages =
     quiet_pays v s run memory t after 0 0 refl asking.asks.charged asking.asks.fewer pins pages
-met_pays v s (Store m at size number) run memory t after reads flat asking pins pages =
+fulfilled_pays v s (Store m at size number) run memory t after reads flat asking pins pages =
     let asks = asking.asks in
     let may : LieInMap asks.flat at size = asks.may in
     let found : map_at (part memory t).maps m ≡ Some asks.flat = ap (λ (maps : FlatMaps). map_at maps m) asking.maps ∙ asks.there in
@@ -151,7 +151,7 @@ met_pays v s (Store m at size number) run memory t after reads flat asking pins 
     let pinned = pins ∙ ap (λ (b : Bool). part_of (stored_sharing b memory.sharing t m at (byte_count size)).pins (t * 2048) 2048) running in
     stored_pays memory t m at (byte_count size) 1 (reserve_from v s.slot) (reserve_from v run.slot) (writes_from v s.slot) (writes_from v run.slot) asks.flat after reads flat found
     may.within (touched-within at (byte_count size) (in_page at size may.aligned)) asks.charged asks.among asks.fewer pinned pages
-met_pays v s (Update m key flags) run memory t after reads flat asking pins pages = by_answer (update_answer asks.flat.shape key flags == 0) refl
+fulfilled_pays v s (Update m key flags) run memory t after reads flat asking pins pages = by_answer (update_answer asks.flat.shape key flags == 0) refl
   where
     asks : Asks v s (Update m key flags) run
     asks = asking.asks
@@ -190,10 +190,10 @@ met_pays v s (Update m key flags) run memory t after reads flat asking pins page
         quiet_pays v s run memory t after (update_frames (part memory t) memory.sharing t m key flags) (update_charge asks.flat.shape) none charged asks.fewer (pins ∙ ap (λ (s : Sharing). part_of s.pins (t * 2048) 2048) kept) pages
 
 -- so it takes no more than is reserved or may be had
-pub met_room : (v : Accepted) (s : MachineState) (need : Need) (run : Running) (memory : MemoryState) (t : ℕ) (value : List ℕ) → ReadsAs memory → AreFlatMaps (part memory t).maps → IsAsking v s need run (part_with_have memory t)
-    → frames_met (part memory t) memory.sharing t need ≤ have_of memory + (part memory t).reserve
-met_room v s need run memory t value reads flat asking =
-    let after = pinned_as (sharing_met (part memory t) memory.sharing t need) t (part_met (part memory t) need value) in
-    let pays = met_pays v s need run memory t after reads flat asking refl (pages_after need value (part memory t).maps) in
+pub fulfilled_room : (v : Accepted) (s : MachineState) (need : Need) (run : Running) (memory : MemoryState) (t : ℕ) (value : List ℕ) → ReadsAs memory → AreFlatMaps (part memory t).maps → IsAsking v s need run (part_with_have memory t)
+    → frames_fulfilled (part memory t) memory.sharing t need ≤ have_of memory + (part memory t).reserve
+fulfilled_room v s need run memory t value reads flat asking =
+    let after = with_pins_of (sharing_fulfilled (part memory t) memory.sharing t need) t (part_fulfilled (part memory t) need value) in
+    let pays = fulfilled_pays v s need run memory t after reads flat asking refl (pages_after need value (part memory t).maps) in
     let enough : needed_from v (part memory t) s.slot ≤ have_of memory + (part memory t).reserve = asking.reserve in
     omega (arith, pays, enough)

@@ -14,7 +14,7 @@ use Rattle.bpf_decode.specs.Opcodes.{byte_count}
 use Rattle.page_table.specs.State.{MemoryState}
 use Rattle.page_table.specs.Changes.{with_record, opened, ended, KeepsSettings}
 use Rattle.interp.specs.declared.need.Need.TheVariants.{Store, Update}
-use Rattle.tenant_runs.specs.Meeting.{MayMeet, answer_for, KeepsSizes}
+use Rattle.tenant_runs.specs.Fulfilment.{MayFulfil, answer_for, KeepsSizes}
 
 -- aligned bytes lie in one page
 pub in_page : (at : ℕ) (size : Size) → at % byte_count size ≡ 0 → at % 4096 + byte_count size ≤ 4096
@@ -36,7 +36,7 @@ own_page None own = refl
 own_page (Some state) own = own
 
 -- what a store may be asked of a map
-pub store_asked : (owned : TenantPart) (m at number : ℕ) (size : Size) (value : List ℕ) → MayMeet owned (Store m at size number) value → at % byte_count size ≡ 0
+pub store_asked : (owned : TenantPart) (m at number : ℕ) (size : Size) (value : List ℕ) → MayFulfil owned (Store m at size number) value → at % byte_count size ≡ 0
 store_asked owned m at number size value may = by_map (map_at owned.maps m) refl
   where
     by_map : (there : Option FlatMap) → map_at owned.maps m ≡ there → at % byte_count size ≡ 0
@@ -44,7 +44,7 @@ store_asked owned m at number size value may = by_map (map_at owned.maps m) refl
     by_map (Some flat) e = let asked = rw e at may in asked.aligned
 
 -- the answer of an update
-pub update_answered : (owned : TenantPart) (m key flags answer : ℕ) (value : List ℕ) (after : FlatMaps) → MayMeet owned (Update m key flags) value → helper Updates owned.maps m key value flags ≡ Some (answer, after)
+pub update_answered : (owned : TenantPart) (m key flags answer : ℕ) (value : List ℕ) (after : FlatMaps) → MayFulfil owned (Update m key flags) value → helper Updates owned.maps m key value flags ≡ Some (answer, after)
     → answer ≡ answer_for owned (Update m key flags)
 unfolding helper
 update_answered owned m key flags answer value after may helped = by_map (map_at owned.maps m) refl

@@ -5,14 +5,14 @@ use Rattle.std.proofs.lemmas.List.{get_or_past, length-drop, length-take}
 use Rattle.host_types.specs.Bytes.{part_of}
 use Rattle.host_types.specs.Memory.{FlatMap, map_at}
 use Rattle.host_types.specs.Sharing.{Sharing, state_at, is_shared_page}
-use Rattle.host_types.specs.Pins.{broken_by}
+use Rattle.host_types.specs.Pins.{broken_for_run}
 use Rattle.host_types.specs.Tenant.{TenantPart, AreFlatMaps}
 use Rattle.host_types.proofs.Unmerging.{broken-own}
 use Rattle.host_types.proofs.Pins.{by-own}
 use Rattle.page_table.specs.Changes.{pages_of_map}
 use Rattle.page_table.specs.Reads.{ReadsAs}
 use Rattle.page_table.specs.State.{MemoryState, part, map_bytes, have_of}
-use Rattle.write_break.specs.Stores.{part_stored, pinned_as, stored_sharing, store_frames}
+use Rattle.write_break.specs.Stores.{part_stored, with_pins_of, stored_sharing, store_frames}
 use Rattle.write_break.proofs.Stores.{touched-within}
 use Rattle.admission.specs.Reserve.{needed_by}
 use Rattle.admission.proofs.Falling.{needed_kept, needed_falls}
@@ -28,13 +28,13 @@ use Rattle.tenant_runs.proofs.Pinning.{own_pins, pages_after, stored_pays}
 -- ---- a page that shares no frame
 
 -- its break changes nothing
-pub own_broken : (running : Bool) (s : Sharing) (i : ℕ) → is_shared_page (state_at s i) ≡ false → broken_by running s i ≡ s
-unfolding broken_by
+pub own_broken : (running : Bool) (s : Sharing) (i : ℕ) → is_shared_page (state_at s i) ≡ false → broken_for_run running s i ≡ s
+unfolding broken_for_run
 own_broken false s i own = broken-own s i own
 own_broken true s i own = by-own s i own
 
 -- a part whose pins stay is pinned as it was
-pub own_part : (memory new : MemoryState) (t : ℕ) (after : TenantPart) → new.sharing ≡ memory.sharing → after.pins ≡ (part memory t).pins → after ≡ pinned_as new.sharing t after
+pub own_part : (memory new : MemoryState) (t : ℕ) (after : TenantPart) → new.sharing ≡ memory.sharing → after.pins ≡ (part memory t).pins → after ≡ with_pins_of new.sharing t after
 own_part memory new t after same kept =
     ap (λ (pins : List Bool). record after { pins = pins }) (kept ∙ own_pins memory t ∙ ap (λ (s : Sharing). part_of s.pins (t * 2048) 2048) (sym same))
 
@@ -73,12 +73,12 @@ flat_there memory t m at size reads within eight flat =
     let there = there_is (part memory t) m at (byte_count size) (some_bytes size).0 within in
     flat t (eight t (there_tenant memory t m there.flat reads there.found))
 
--- a store to a map has as many pages of each map behind it
+-- a store to a map has as many pages of each map after it
 pages_stored : (owned : TenantPart) (m at number : ℕ) (size : Size) (k : ℕ) → pages_of_map (part_stored owned m at (byte_count size) number) k ≡ pages_of_map owned k
 pages_stored owned m at number size k = pages_after (Store m at size number) [] owned.maps k
 
 module _ (memory : MemoryState) (t m at : ℕ) (size : Size) (reads : ReadsAs memory) (flat : AreFlatMaps (part memory t).maps) (within : at + byte_count size ≤ length (map_bytes (part memory t) m)) (aligned : at % byte_count size ≡ 0) where
-  -- what a store takes, and what is needed behind it, was needed before
+  -- what a store takes, and what is needed after it, was needed before
   pays : (running : (part memory t).running ≡ true) (total : ℕ) (writes later : ℕ → Bool) (after : TenantPart) → writes m ≡ true → AreAmong later writes
       → after.pins ≡ part_of (stored_sharing (part memory t).running memory.sharing t m at (byte_count size)).pins (t * 2048) 2048 → ((k : ℕ) → pages_of_map after k ≡ pages_of_map (part memory t) k)
       → store_frames memory.sharing t m at (byte_count size) + needed_by total later after ≤ needed_by (1 + total) writes (part memory t)
@@ -91,13 +91,13 @@ module _ (memory : MemoryState) (t m at : ℕ) (size : Size) (reads : ReadsAs me
   -- a memory that has room for a store has the frames that it takes
   pub room_enough : HasRoomFor (HasStoreFrames t) memory m → store_frames memory.sharing t m at (byte_count size) ≤ have_of memory
   room_enough (writes, marked, has) =
-      let after = pinned_as (stored_sharing (part memory t).running memory.sharing t m at (byte_count size)) t (part memory t) in
+      let after = with_pins_of (stored_sharing (part memory t).running memory.sharing t m at (byte_count size)) t (part memory t) in
       let enough = has.frames in
       let least = pays has.running 0 writes writes after marked (λ k is. is) refl (λ k. refl) in
       omega (arith, enough, least)
 
-  -- and has room for what comes behind it
-  pub room_kept : (new : MemoryState) (number : ℕ) → part new t ≡ pinned_as new.sharing t (part_stored (part memory t) m at (byte_count size) number)
+  -- and has room for what comes after it
+  pub room_kept : (new : MemoryState) (number : ℕ) → part new t ≡ with_pins_of new.sharing t (part_stored (part memory t) m at (byte_count size) number)
       → new.sharing ≡ stored_sharing (part memory t).running memory.sharing t m at (byte_count size) → have_of new + store_frames memory.sharing t m at (byte_count size) ≡ have_of memory → KeepsRoom (HasStoreFrames t) memory m new
   room_kept new number owned sharing have total writes later marked among has =
       let pins : (part new t).pins ≡ part_of (stored_sharing (part memory t).running memory.sharing t m at (byte_count size)).pins (t * 2048) 2048 =
@@ -109,7 +109,7 @@ module _ (memory : MemoryState) (t m at : ℕ) (size : Size) (reads : ReadsAs me
       record { running = ap (λ (one : TenantPart). one.running) owned ∙ has.running; frames = omega (arith, least, enough, have) }
 
 -- so has one after a store that takes nothing and pins nothing
-pub room_same : (memory new : MemoryState) (t m at number : ℕ) (size : Size) → part new t ≡ pinned_as new.sharing t (part_stored (part memory t) m at (byte_count size) number) → new.sharing ≡ memory.sharing → have_of new ≡ have_of memory → KeepsRoom (HasStoreFrames t) memory m new
+pub room_same : (memory new : MemoryState) (t m at number : ℕ) (size : Size) → part new t ≡ with_pins_of new.sharing t (part_stored (part memory t) m at (byte_count size) number) → new.sharing ≡ memory.sharing → have_of new ≡ have_of memory → KeepsRoom (HasStoreFrames t) memory m new
 room_same memory new t m at number size owned same have total writes later marked among has =
     let pins : (part new t).pins ≡ (part memory t).pins = own_pins new t ∙ ap (λ (s : Sharing). part_of s.pins (t * 2048) 2048) same ∙ sym (own_pins memory t) in
     let pages : (k : ℕ) → pages_of_map (part new t) k ≡ pages_of_map (part memory t) k =

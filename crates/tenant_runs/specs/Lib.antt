@@ -1,3 +1,3 @@
-pub mod Meeting
+pub mod Fulfilment
 pub mod UnderWay
 pub mod Storing

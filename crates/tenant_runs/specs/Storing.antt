@@ -3,10 +3,10 @@ use Rattle.std.specs.Prelude.{◌≡◌, ◌≤◌, ◌+◌, ℕ, Bool, true}
 use Rattle.host_types.specs.Memory.{FlatMaps}
 use Rattle.bpf_decode.specs.declared.operation.Size.{Size}
 use Rattle.bpf_decode.specs.Opcodes.{byte_count}
-use Rattle.page_table.specs.Changes.{IsKeptBut, KeepsSettings}
+use Rattle.page_table.specs.Changes.{OtherTenantsUnchanged, KeepsSettings}
 use Rattle.page_table.specs.Reads.{ReadsAs}
 use Rattle.page_table.specs.State.{MemoryState, part, have_of}
-use Rattle.write_break.specs.Stores.{part_stored, pinned_as, stored_sharing, store_frames}
+use Rattle.write_break.specs.Stores.{part_stored, with_pins_of, stored_sharing, store_frames}
 use Rattle.admission.specs.Reserve.{needed_by}
 use Rattle.interp.specs.OnMaps.{KeepsRoom}
 
@@ -23,8 +23,8 @@ pub record HasStoreFrames (tenant : ℕ) (memory : MemoryState) (total : ℕ) (w
 -- pinned for an open run; no other tenant's part changes; it takes the frames of the break, of those for stores of which it is one, and the
 -- memory is one as ever.
 pub record HasStored (tenant : ℕ) (old : MemoryState) (m at : ℕ) (size : Size) (number : ℕ) (new : MemoryState) : Type 0 where
-  pub owned : part new tenant ≡ pinned_as new.sharing tenant (part_stored (part old tenant) m at (byte_count size) number)
-  pub others : IsKeptBut tenant old new
+  pub owned : part new tenant ≡ with_pins_of new.sharing tenant (part_stored (part old tenant) m at (byte_count size) number)
+  pub others : OtherTenantsUnchanged tenant old new
   pub sharing : new.sharing ≡ stored_sharing (part old tenant).running old.sharing tenant m at (byte_count size)
   pub settings : KeepsSettings old new
   pub have : have_of new + store_frames old.sharing tenant m at (byte_count size) ≡ have_of old

@@ -2,15 +2,15 @@ ghost use Rattle.std.specs.Prelude.{◌≡◌, ◌+◌, ◌≤◌, ℕ, Some};
 ghost use Rattle.bpf_decode.specs.Text.{instructions_of};
 ghost use Rattle.verifier.specs.Verified.{Accepted};
 ghost use Rattle.page_table.specs.State.{part};
-ghost use Rattle.page_table.specs.Changes.{IsKeptBut};
+ghost use Rattle.page_table.specs.Changes.{OtherTenantsUnchanged};
 ghost use Rattle.admission.specs.Reserve.{needed_from};
 ghost use Rattle.interp.specs.Machine.{MachineState, Next, Exits, step};
 ghost use Rattle.interp.specs.Runs.{Reaches};
-ghost use Rattle.tenant_runs.specs.Meeting.{sharing_met, KeepsSizes};
+ghost use Rattle.tenant_runs.specs.Fulfilment.{sharing_fulfilled, KeepsSizes};
 ghost use Rattle.tenant_runs.specs.UnderWay.{IsUnderWay, IsAsking, part_with_have};
 
 use crate::maps::TenantMaps;
-use crate::meeting::meet;
+use crate::needs::fulfil;
 use admission::needed;
 use interp::{Need, Run};
 use page_table::Memory;
@@ -26,7 +26,7 @@ pub struct RunReply {
 }
 
 /// Does what a tenant's run asks, and gives it the answer: then it stands for the state to which the
-/// standard's step leads, and its maps are the tenant's. What is reserved for it before and what `have()` tells
+/// standard's step leads, and its maps are the tenant's. What is reserved for it before and what `have()` gives
 /// are together enough for the rest of it; afterwards just what the rest of it may need is reserved, by the pages that
 /// it has pinned by then.
 pub fn answer(memory: &mut Memory, tenant: u32, program: &Verified, run: &mut Run, need: Need)
@@ -35,8 +35,8 @@ pub fn answer(memory: &mut Memory, tenant: u32, program: &Verified, run: &mut Ru
         → (next : MachineState) × (step program.now.subject.text s ≡ Some (Next next)) × IsUnderWay program.now run.new next (part memory.new tenant) }
     ensures reserve { (part memory.new tenant).reserve ≡ needed_from program.now (part memory.new tenant) run.old.slot }
     ensures steps { run.new.steps ≡ run.old.steps }
-    ensures others { IsKeptBut tenant memory.old memory.new }
-    ensures sharing { memory.new.sharing ≡ sharing_met (part memory.old tenant) memory.old.sharing tenant need }
+    ensures others { OtherTenantsUnchanged tenant memory.old memory.new }
+    ensures sharing { memory.new.sharing ≡ sharing_fulfilled (part memory.old tenant) memory.old.sharing tenant need }
     ensures sizes { KeepsSizes memory.old memory.new }
 {
     respond(memory, tenant, run, need);
@@ -44,7 +44,7 @@ pub fn answer(memory: &mut Memory, tenant: u32, program: &Verified, run: &mut Ru
     memory.record(tenant, left);
 }
 
-/// Does what a tenant's run asks, and gives it the answer. What is recorded for the run behind it and what `have()` tells
+/// Does what a tenant's run asks, and gives it the answer. What is recorded for the run after it and what `have()` gives
 /// are together enough for the rest of it: whoever stops there records what that may need.
 fn respond(memory: &mut Memory, tenant: u32, run: &mut Run, need: Need)
     requires asks { (v : Accepted) × (s : MachineState) × IsAsking v s need run.old (part_with_have memory.old tenant) }
@@ -52,8 +52,8 @@ fn respond(memory: &mut Memory, tenant: u32, run: &mut Run, need: Need)
         → (next : MachineState) × (step v.subject.text s ≡ Some (Next next)) × IsUnderWay v run.new next (part_with_have memory.new tenant) }
     ensures slot { run.new.slot ≡ run.old.slot }
     ensures steps { run.new.steps ≡ run.old.steps }
-    ensures others { IsKeptBut tenant memory.old memory.new }
-    ensures sharing { memory.new.sharing ≡ sharing_met (part memory.old tenant) memory.old.sharing tenant need }
+    ensures others { OtherTenantsUnchanged tenant memory.old memory.new }
+    ensures sharing { memory.new.sharing ≡ sharing_fulfilled (part memory.old tenant) memory.old.sharing tenant need }
     ensures sizes { KeepsSizes memory.old memory.new }
 {
     memory.facts();
@@ -62,7 +62,7 @@ fn respond(memory: &mut Memory, tenant: u32, run: &mut Run, need: Need)
         Need::Update { .. } => run.value(),
         _ => &[],
     };
-    let number = meet(memory, tenant, need, value);
+    let number = fulfil(memory, tenant, need, value);
     run.answer(number);
 }
 
@@ -74,7 +74,7 @@ pub fn finish(memory: &mut Memory, tenant: u32, program: &Verified, run: &mut Ru
     ensures ended { (s : MachineState) → IsUnderWay program.now run.old s (part_with_have memory.old tenant)
         → (n : ℕ) × Reaches program.now.subject.text s n (Exits result.ret (part memory.new tenant).maps) × (result.steps ≡ run.old.steps + n) }
     ensures few { result.steps ≤ instructions_of program.now.subject.text }
-    ensures others { IsKeptBut tenant memory.old memory.new }
+    ensures others { OtherTenantsUnchanged tenant memory.old memory.new }
     ensures sizes { KeepsSizes memory.old memory.new }
 {
     program.facts();

@@ -5,12 +5,12 @@
 
 mod driving;
 mod maps;
-mod meeting;
+mod needs;
 mod opening;
 mod running;
 
 pub use driving::{RunReply, answer, finish};
 pub use maps::TenantMaps;
-pub use meeting::meet;
+pub use needs::fulfil;
 pub use opening::open_run;
 pub use running::{has_shapes, run};

@@ -5,7 +5,7 @@ ghost use Rattle.page_table.specs.State.{part, map_bytes};
 ghost use Rattle.interp.specs.OnMaps.{HasRoomFor};
 ghost use Rattle.tenant_runs.specs.Storing.{maps_of_part, HasStoreFrames, HasStored};
 
-use crate::meeting::look_up;
+use crate::needs::look_up;
 use bpf_decode::Size;
 use byteorder::{ByteOrder, LittleEndian};
 use host_types::MapNo;
@@ -63,7 +63,7 @@ fn store_apart(memory: &mut Memory, tenant: u32, map: MapNo, at: u32, size: Size
     memory.facts();
 }
 
-/// Stores the low bytes of a number to a page that has a frame of its own: as many bytes as the code says, behind no call.
+/// Stores the low bytes of a number to a page that has a frame of its own: as many bytes as the code says, after no call.
 #[inline(always)]
 fn store_own(memory: &mut Memory, tenant: u32, map: MapNo, at: u32, size: Size, value: u64)
     requires within { at + byte_count size ≤ length (map_bytes (part memory.old tenant) map) }

@@ -1,6 +1,6 @@
 ghost use Rattle.std.specs.Prelude.{◌≡◌, ◌≤◌, false, length, IfOk, OnOk, IfErr, OnErr};
 ghost use Rattle.page_table.specs.State.{part, have_of};
-ghost use Rattle.page_table.specs.Changes.{IsKeptBut, opened, with_run};
+ghost use Rattle.page_table.specs.Changes.{OtherTenantsUnchanged, opened, with_run};
 ghost use Rattle.admission.specs.Reserve.{needed_from};
 ghost use Rattle.interp.specs.StandsFor.{IsBegun};
 ghost use Rattle.tenant_runs.specs.UnderWay.{RefusesOpen};
@@ -36,7 +36,7 @@ pub fn open_run(
         (part memory.new tenant ≡ with_run (needed_from program.now (part memory.old tenant) 0) (part memory.old tenant)) }
     ensures all { OnOk result
         (memory.new ≡ opened memory.old tenant (needed_from program.now (part memory.old tenant) 0)) }
-    ensures others { IsKeptBut tenant memory.old memory.new }
+    ensures others { OtherTenantsUnchanged tenant memory.old memory.new }
     ensures refused { IfErr result (RefusesOpen program.now context.now memory.old tenant) }
     ensures unchanged { OnErr result (memory.new ≡ memory.old) }
 {

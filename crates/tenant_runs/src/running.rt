@@ -1,11 +1,11 @@
 ghost use Rattle.std.specs.Prelude.{◌≡◌, ◌≤◌, ◌↔◌, true, false, slice_index_or, None, IfSome, IfOk, OnOk, IfErr, OnErr, IsSomeAnd};
 ghost use Rattle.host_types.specs.Memory.{map_at};
 ghost use Rattle.page_table.specs.State.{part, have_of};
-ghost use Rattle.page_table.specs.Changes.{IsKeptBut};
+ghost use Rattle.page_table.specs.Changes.{OtherTenantsUnchanged};
 ghost use Rattle.verifier.specs.Named.{named_shapes};
 ghost use Rattle.admission.specs.Reserve.{needed_from};
 ghost use Rattle.interp.specs.Fits.{HaveShapes};
-ghost use Rattle.tenant_runs.specs.Meeting.{KeepsSizes};
+ghost use Rattle.tenant_runs.specs.Fulfilment.{KeepsSizes};
 ghost use Rattle.tenant_runs.specs.UnderWay.{HasRun, MayRun, RefusesRun};
 
 use crate::driving::{RunReply, finish};
@@ -96,7 +96,7 @@ pub fn run(
     ensures ran { IfOk result (HasRun program.now context.now (part memory.old tenant) (part memory.new tenant)) }
     ensures refused { IfErr result (RefusesRun program.now context.now memory.old tenant) }
     ensures unchanged { OnErr result (memory.new ≡ memory.old) }
-    ensures others { IsKeptBut tenant memory.old memory.new }
+    ensures others { OtherTenantsUnchanged tenant memory.old memory.new }
     ensures sizes { KeepsSizes memory.old memory.new }
 {
     memory.maps_are_flat();

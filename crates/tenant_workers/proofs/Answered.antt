@@ -5,7 +5,7 @@ use Rattle.std.proofs.lemmas.List.{take_more, take_more_set}
 use Rattle.host_types.specs.declared.fault.Fault.{Fault}
 use Rattle.verifier.specs.Verified.{Accepted}
 use Rattle.tenant_runs.specs.declared.driving.RunReply.{RunReply}
-use Rattle.host_calls.specs.Calls.{TellsHave}
+use Rattle.host_calls.specs.Calls.{NamesHave}
 use Rattle.tenant_runs.specs.UnderWay.{HasRun}
 use Rattle.turn.specs.Seats.{SeatState, own_part}
 use Rattle.tenant_workers.specs.Calls.{HasGoneOn, memory_left}
@@ -14,10 +14,10 @@ use Rattle.tenant_workers.specs.Runs.{HasFramesForRun, HasRefusedRun, RefusesRun
 
 -- what a run was answered, by each of its clauses
 pub replies_to : (v : Accepted) (context : List ℕ) (old new : SeatState) (reply : Result RunReply Fault) → HasGoneOn old new → IfOk reply (HasRun v context (own_part old) (own_part new))
-    → IfErr reply (RefusesRunOnContext v context (own_part old)) → IfErr reply (TellsHave (memory_left new)) → IfErr reply (HasFramesForRun v (own_part old) (memory_left new))
+    → IfErr reply (RefusesRunOnContext v context (own_part old)) → IfErr reply (NamesHave (memory_left new)) → IfErr reply (HasFramesForRun v (own_part old) (memory_left new))
     → OnErr reply (own_part new ≡ own_part old) → IfErr reply (HasRefusedRun old new) → RepliesTo v context old reply new
-replies_to v context old new (Ok reply) turns ran refused told enough kept turn = record { ran = ran; turns = turns }
-replies_to v context old new (Err fault) turns ran refused told enough kept turn = record { refused = refused; kept = kept; turn = turn; told = told; enough = enough }
+replies_to v context old new (Ok reply) turns ran refused reported enough kept turn = record { ran = ran; turns = turns }
+replies_to v context old new (Err fault) turns ran refused reported enough kept turn = record { refused = refused; kept = kept; turn = turn; reported = reported; enough = enough }
 
 -- one more run is answered after all the others
 pub answered-push : (programs : List Accepted) (runs : List (ℕ × List ℕ)) (run : ℕ × List ℕ) (old between new : SeatState) (replies : List (Result RunReply Fault)) (reply : Result RunReply Fault)
@@ -28,17 +28,17 @@ answered-push programs (first ∷ runs) run old between new [] reply all one = a
 answered-push programs (first ∷ runs) run old between new (other ∷ replies) reply (middle, here, rest) one =
     (middle, here, answered-push programs runs run middle between new replies reply rest one)
 
--- the next run is answered, in its place
-pub answered-more : (programs : List Accepted) (runs : List (ℕ × List ℕ)) (place : ℕ) (run : ℕ × List ℕ) (old between new : SeatState) (replies : List (Result RunReply Fault)) (reply : Result RunReply Fault)
-    → place < length runs → place < length replies → get_or runs place run ≡ run
-    → AllReply programs (take place runs) old (take place replies) between → RepliesBy programs run.0 run.1 between reply new
-    → AllReply programs (take (place + 1) runs) old (take (place + 1) (set replies place reply)) new
-answered-more programs runs place run old between new replies reply within room named all one =
-    rw (take_more runs place run within, take_more_set replies place reply room, named) (answered-push programs (take place runs) run old between new (take place replies) reply all one)
+-- the next run is answered, in its index
+pub answered-more : (programs : List Accepted) (runs : List (ℕ × List ℕ)) (entry_index : ℕ) (run : ℕ × List ℕ) (old between new : SeatState) (replies : List (Result RunReply Fault)) (reply : Result RunReply Fault)
+    → entry_index < length runs → entry_index < length replies → get_or runs entry_index run ≡ run
+    → AllReply programs (take entry_index runs) old (take entry_index replies) between → RepliesBy programs run.0 run.1 between reply new
+    → AllReply programs (take (entry_index + 1) runs) old (take (entry_index + 1) (set replies entry_index reply)) new
+answered-more programs runs entry_index run old between new replies reply within room named all one =
+    rw (take_more runs entry_index run within, take_more_set replies entry_index reply room, named) (answered-push programs (take entry_index runs) run old between new (take entry_index replies) reply all one)
 
--- what an element is mapped to, in its place
-pub mapped-at : {X Y : Type 0} (f : X → Y) (now first : List X) (place : ℕ) (x : X) → x ≡ get_or now place x → now ≡ first → get_or (map f first) place (f x) ≡ f x
-mapped-at f now first place x is same = get_or-map f first place x ∙ sym (ap f (is ∙ ap (λ xs. get_or xs place x) same))
+-- what an element is mapped to, in its index
+pub mapped-at : {X Y : Type 0} (f : X → Y) (now first : List X) (entry_index : ℕ) (x : X) → x ≡ get_or now entry_index x → now ≡ first → get_or (map f first) entry_index (f x) ≡ f x
+mapped-at f now first entry_index x is same = get_or-map f first entry_index x ∙ sym (ap f (is ∙ ap (λ xs. get_or xs entry_index x) same))
 
 -- the same answer to the same run
 pub answered-as : (programs given : List Accepted) (number : ℕ) (context lent : List ℕ) (old new : SeatState) (reply : Result RunReply Fault)

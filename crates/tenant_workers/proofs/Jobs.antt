@@ -47,7 +47,7 @@ kept_ended becomes thread done kept job is = subst (λ was. becomes was done) is
 pub refused_ended : {T : Type 0} (becomes : T → T → Type 0) (done : T) → IsJobDone becomes (Err done) done
 refused_ended becomes done job is = is
 
--- what is told of what elements are mapped to
+-- what is reported of what elements are mapped to
 pub each-mapped : {X Y : Type 0} (f : X → Y) (R : Y → Y → Type 0) (xs ys : List X) → AreEach (λ x y. R (f x) (f y)) xs ys → AreEach R (map f xs) (map f ys)
 each-mapped f R [] [] each = tt
 each-mapped f R [] (y ∷ ys) each = absurd each

@@ -9,10 +9,10 @@ use Rattle.tenant_workers.specs.Plans.{AreAnswered, AreSamePlans, AreServed, IsP
 use Rattle.tenant_workers.specs.Jobs.{AreEach}
 
 -- an element written over by another one that is mapped to the same
-pub map-set_same : {X Y : Type 0} (f : X → Y) (xs : List X) (place : ℕ) (x y : X) → f y ≡ f (get_or xs place x) → map f (set xs place y) ≡ map f xs
-map-set_same f [] place x y same = refl
+pub map-set_same : {X Y : Type 0} (f : X → Y) (xs : List X) (entry_index : ℕ) (x y : X) → f y ≡ f (get_or xs entry_index x) → map f (set xs entry_index y) ≡ map f xs
+map-set_same f [] entry_index x y same = refl
 map-set_same f (first ∷ xs) zero x y same = ap (λ z. z ∷ map f xs) same
-map-set_same f (first ∷ xs) (suc place) x y same = ap (λ zs. f first ∷ zs) (map-set_same f xs place x y same)
+map-set_same f (first ∷ xs) (suc entry_index) x y same = ap (λ zs. f first ∷ zs) (map-set_same f xs entry_index x y same)
 
 abbrev pub with_replies : Planned → List (Result RunReply Fault) → Planned
 with_replies planned replies = record planned { replies = replies }

@@ -12,7 +12,7 @@ use Rattle.host_types.specs.declared.options.Options.{Options}
 use Rattle.verifier_kinds.proofs.Descriptions.{get_or-one}
 use Rattle.page_table.specs.declared.tenant.Tenant.{Tenant}
 use Rattle.page_table.specs.State.{MemoryState, new_memory, unreserved_tenant, part}
-use Rattle.page_table.specs.Changes.{with_run, without_run, part_created, IsKeptBut}
+use Rattle.page_table.specs.Changes.{with_run, without_run, part_created, OtherTenantsUnchanged}
 use Rattle.map_helpers.specs.Updates.{part_updated}
 use Rattle.turn.specs.Views.{SeatView}
 use Rattle.turn.specs.Seats.{SeatState, IsIdle, IsNewSeat, own_part}
@@ -51,7 +51,7 @@ new_rests frames tenants options t inside = record {
 }
 
 -- a map that is made leaves them so
-pub made_rests : (old new : MemoryState) (tenants tenant m : ℕ) (shape : Shape) → ((t : ℕ) → t < tenants → IsResting (part old t)) → part new tenant ≡ part_created (part old tenant) m shape → IsKeptBut tenant old new
+pub made_rests : (old new : MemoryState) (tenants tenant m : ℕ) (shape : Shape) → ((t : ℕ) → t < tenants → IsResting (part old t)) → part new tenant ≡ part_created (part old tenant) m shape → OtherTenantsUnchanged tenant old new
     → (t : ℕ) → t < tenants → IsResting (part new t)
 made_rests old new tenants tenant m shape rest created others t inside = by_number (t == tenant) refl
   where

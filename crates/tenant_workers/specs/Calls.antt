@@ -3,7 +3,7 @@ use Rattle.std.specs.Prelude.{◌≡◌, ◌*◌, ℕ, Bool, false, List, [], �
 use Rattle.host_types.specs.declared.fault.Fault.{Fault}
 use Rattle.host_types.specs.declared.fault.Fault.TheVariants.{NoMap}
 use Rattle.host_types.specs.Memory.{map_at}
-use Rattle.host_types.specs.Pages.{map_place}
+use Rattle.host_types.specs.Pages.{map_index_of}
 use Rattle.host_types.specs.Unmerging.{with_option, unmerged}
 use Rattle.host_types.specs.Tenant.{TenantPart}
 use Rattle.host_types.specs.Visits.{visit, dropped}
@@ -12,7 +12,7 @@ use Rattle.host_types.specs.declared.shape.Shape.{Shape}
 use Rattle.host_types.specs.declared.visited.Visited.{Visited}
 use Rattle.page_table.specs.Limits.{page_count}
 use Rattle.page_table.specs.State.{MemoryState, part}
-use Rattle.page_table.specs.Changes.{contents_now, with_new_pages, pages_of_map, IsKeptBut, KeepsSettings}
+use Rattle.page_table.specs.Changes.{contents_now, with_new_pages, pages_of_map, OtherTenantsUnchanged, KeepsSettings}
 use Rattle.map_helpers.specs.Updates.{part_updated, updated_sharing_as}
 use Rattle.turn.specs.Seats.{SeatState}
 
@@ -56,8 +56,8 @@ pub record HasUnmerged (old new : MemoryState) : Type 0 where
 -- A map of a tenant was made: its pages were never visited, and may be merged or not; nothing else changed of which
 -- pages share frames, and no other tenant's part.
 pub record HasMap (tenant m : ℕ) (shape : Shape) (mergeable : Bool) (old new : MemoryState) : Type 0 where
-  pub sharing : new.sharing ≡ with_new_pages old.sharing (map_place tenant m * 256) (page_count shape) mergeable
-  pub others : IsKeptBut tenant old new
+  pub sharing : new.sharing ≡ with_new_pages old.sharing (map_index_of tenant m * 256) (page_count shape) mergeable
+  pub others : OtherTenantsUnchanged tenant old new
   pub settings : KeepsSettings old new
 
 -- A value was written to an element of a map of a tenant, which had this part before: its maps are those of the
@@ -66,15 +66,15 @@ pub record HasMap (tenant m : ℕ) (shape : Shape) (mergeable : Bool) (old new :
 pub record HasUpdated (owned : TenantPart) (tenant m key : ℕ) (value : List ℕ) (old new : MemoryState) : Type 0 where
   pub written : part new tenant ≡ part_updated owned m key value 0
   pub sharing : new.sharing ≡ updated_sharing_as false owned old.sharing tenant m key 0
-  pub others : IsKeptBut tenant old new
+  pub others : OtherTenantsUnchanged tenant old new
   pub settings : KeepsSettings old new
 
 -- A map of a tenant was dropped: its pages left their groups, the frame of zeros and the waiting list, and the pass
--- ended if no page behind the cursor may be merged; nothing else changed of which pages share frames, and no other
+-- ended if no page after the cursor may be merged; nothing else changed of which pages share frames, and no other
 -- tenant's part.
 pub record HasDropped (tenant m : ℕ) (old new : MemoryState) : Type 0 where
-  pub sharing : new.sharing ≡ dropped old.sharing (map_place tenant m * 256) (pages_of_map (part old tenant) m)
-  pub others : IsKeptBut tenant old new
+  pub sharing : new.sharing ≡ dropped old.sharing (map_index_of tenant m * 256) (pages_of_map (part old tenant) m)
+  pub others : OtherTenantsUnchanged tenant old new
   pub settings : KeepsSettings old new
 
 -- why a map isn't dropped: the tenant has no map of the number

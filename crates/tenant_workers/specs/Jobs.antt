@@ -4,7 +4,7 @@ use Rattle.std.specs.declared.thread.PromisedHandle.{PromisedHandle}
 use Rattle.tenant_workers.specs.declared.threads.Becomes.{Becomes}
 use Rattle.tenant_workers.specs.declared.threads.Room.{Room}
 
--- the lists are of one length, and what stands at one place of both is so related
+-- the lists are of one length, and what stands at one index of both is so related
 abbrev pub AreEach : {X Y : Type 0} → (X → Y → Type 0) → List X → List Y → Type 0
 AreEach R [] [] = Unit {0}
 AreEach R (x ∷ xs) (y ∷ ys) = R x y × AreEach R xs ys

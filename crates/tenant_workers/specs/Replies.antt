@@ -3,7 +3,7 @@ use Rattle.std.specs.Prelude.{◌≡◌, ℕ, List, [], ◌∷◌, MatchOption, 
 use Rattle.host_types.specs.declared.fault.Fault.{Fault}
 use Rattle.host_types.specs.declared.fault.Fault.TheVariants.{NoProgram}
 use Rattle.verifier.specs.Verified.{Accepted}
-use Rattle.host_calls.specs.Calls.{TellsHave}
+use Rattle.host_calls.specs.Calls.{NamesHave}
 use Rattle.tenant_runs.specs.declared.driving.RunReply.{RunReply}
 use Rattle.tenant_runs.specs.UnderWay.{HasRun}
 use Rattle.turn.specs.Seats.{SeatState, own_part}
@@ -16,12 +16,12 @@ pub record IsRunMade (v : Accepted) (context : List ℕ) (old : SeatState) (repl
   pub turns : HasGoneOn old new
 
 -- A run wasn't made, and the part stays. In the turn in which it was asked, the memory stayed too: missing frames are
--- told by what could be had of it then, and where memory ran out, it had the frames.
+-- reported by what could be had of it then, and where memory ran out, it had the frames.
 pub record IsNotMade (v : Accepted) (context : List ℕ) (old : SeatState) (fault : Fault) (new : SeatState) : Type 0 where
   pub refused : RefusesRunOnContext v context (own_part old) fault
   pub kept : own_part new ≡ own_part old
   pub turn : HasRefusedRun old new fault
-  pub told : TellsHave (memory_left new) fault
+  pub reported : NamesHave (memory_left new) fault
   pub enough : HasFramesForRun v (own_part old) (memory_left new) fault
 
 -- the answer to a run of a program on a context

@@ -46,14 +46,14 @@ pub(crate) fn drive(
                     steps: run.steps(),
                 };
             }
-            need => meet(shared, rt, seat, program, run, need),
+            need => fulfil(shared, rt, seat, program, run, need),
         }
     }
 }
 
 /// The one turn in which what a run asks is done and answered.
 #[tactic(auto, using(tenant_runs::proofs::Roomy::asking_roomy))]
-fn meet(
+fn fulfil(
     shared: &Shared,
     rt: &impl Wait,
     seat: &mut Seat,

@@ -46,7 +46,7 @@ impl Shared {
     /// Gives each page that shares a frame one of its own, and stops the scanner. No tenant's part changes.
     ///
     /// The one refusal is 31, just where the frames that this takes are more than those that may be had;
-    /// it tells both numbers, and changes nothing.
+    /// it names both numbers, and changes nothing.
     #[tactic(auto, unfolding(host_types::specs::Unmerging::unmerged))]
     pub fn unmerge(&self, rt: &impl Wait, seat: &mut HostSeat) -> Result<(), Fault>
         requires idle { IsIdle self.now seat.old }
@@ -65,12 +65,12 @@ impl Shared {
         answer
     }
 
-    /// What is told of pages that share frames, at one moment. No tenant's part changes.
+    /// What is reported of pages that share frames, at one moment. No tenant's part changes.
     pub fn counters(&self, rt: &impl Wait, seat: &mut HostSeat) -> Counters
         requires idle { IsIdle self.now seat.old }
         ensures idle { IsIdle self.now seat.new }
         ensures same { IsSameSeat seat.old seat.new }
-        ensures told { result ≡ counters_of (length (memory_left seat.new).arena)
+        ensures reported { result ≡ counters_of (length (memory_left seat.new).arena)
             (contents_now (memory_left seat.new)) (memory_left seat.new).sharing }
     {
         let held = self.turn.take(rt, seat);

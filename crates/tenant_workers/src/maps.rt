@@ -6,7 +6,7 @@ ghost use Rattle.page_table.specs.Limits.{shape_of};
 ghost use Rattle.page_table.specs.State.{free_number};
 ghost use Rattle.host_types.specs.Helpers.{maps_updated};
 ghost use Rattle.map_helpers.specs.Updates.{part_updated};
-ghost use Rattle.host_calls.specs.Calls.{FitsNewMap, FitsValue, IsValue, RefusesNewMap, RefusesUpdate, RefusesLookup, TellsHave};
+ghost use Rattle.host_calls.specs.Calls.{FitsNewMap, FitsValue, IsValue, RefusesNewMap, RefusesUpdate, RefusesLookup, NamesHave};
 ghost use Rattle.turn.specs.Seats.{IsIdle, own_part};
 ghost use Rattle.tenant_workers.specs.Calls.{IsSameSeat, memory_left, HasChanged, HasDropped, HasMap, HasUpdated, IsUnchanged, LacksMap};
 ghost use Rattle.tenant_workers.specs.Runs.{IsResting};
@@ -22,7 +22,7 @@ impl Shared {
     /// Makes a map of zeros for the seat's tenant, at its first free number.
     ///
     /// Refusals in their order: 32 where the tenant has eight maps, 33 where the shape is out of limits, 31
-    /// just where the map's pages are more than the frames that may be had; it tells both numbers. 42 never comes,
+    /// just where the map's pages are more than the frames that may be had; it names both numbers. 42 never comes,
     /// as a seat's tenant is there. A refusal changes nothing. The call takes no memory.
     #[tactic(auto, using(crate::proofs::Resting::created_rests))]
     pub fn create_map(
@@ -45,7 +45,7 @@ impl Shared {
             HasChanged (HasMap seat.old.view.first m (shape_of value_size entries) mergeable) seat.old seat.new) }
         ensures refused { IfErr result
             (RefusesNewMap (own_part seat.old) (shape_of value_size entries)) }
-        ensures told { IfErr result (TellsHave (memory_left seat.new)) }
+        ensures reported { IfErr result (NamesHave (memory_left seat.new)) }
         ensures kept { OnErr result (own_part seat.new ≡ own_part seat.old) }
         ensures unchanged { OnErr result (HasChanged IsUnchanged seat.old seat.new) }
     {
@@ -90,7 +90,7 @@ impl Shared {
     ///
     /// Refusals in their order: 34 where the tenant has no such map, 35 where the map has no such element, 33
     /// where the value has another size than the map's, 31 just where what is charged for an update of the
-    /// map is above the frames that may be had; it tells both numbers. 42 never comes, as a seat's tenant is
+    /// map is above the frames that may be had; it names both numbers. 42 never comes, as a seat's tenant is
     /// there. A refusal changes nothing.
     #[tactic(auto, using(crate::proofs::Resting::updated_rests), unfolding(host_types::specs::Helpers::maps_updated))]
     pub fn update(
@@ -113,7 +113,7 @@ impl Shared {
         ensures made { OnOk result
             (HasChanged (HasUpdated (own_part seat.old) seat.old.view.first map key value.now) seat.old seat.new) }
         ensures refused { IfErr result (RefusesUpdate (own_part seat.old) map key value.now) }
-        ensures told { IfErr result (TellsHave (memory_left seat.new)) }
+        ensures reported { IfErr result (NamesHave (memory_left seat.new)) }
         ensures kept { OnErr result (own_part seat.new ≡ own_part seat.old) }
         ensures unchanged { OnErr result (HasChanged IsUnchanged seat.old seat.new) }
     {

@@ -51,7 +51,7 @@ pub struct Plan<'a> {
 }
 
 impl<'a> ScanPlan<'a> {
-    /// The plan's visits, one turn a visit, after each of which the gate is told. No tenant's part changes.
+    /// The plan's visits, one turn a visit, after each of which the gate is reported. No tenant's part changes.
     pub fn scan(&mut self, rt: &impl Wait, gate: &impl Gate)
         ensures shared { self.new.shared.now ≡ self.old.shared.now }
         ensures visits { self.new.visits ≡ self.old.visits }
@@ -59,6 +59,6 @@ impl<'a> ScanPlan<'a> {
         ensures made { HasVisited self.old.visits self.old.seat self.new.seat }
     {
         let shared = self.shared;
-        shared.scan_told(rt, &mut self.seat, self.visits, gate);
+        shared.scan_answered(rt, &mut self.seat, self.visits, gate);
     }
 }

@@ -6,7 +6,7 @@ ghost use Rattle.turn.specs.Seats.{IsIdle, own_part};
 ghost use Rattle.tenant_workers.specs.Calls.{IsSameSeat};
 
 use crate::shared::Shared;
-use host_calls::{host_shapes, judge};
+use host_calls::{decode_and_verify, host_shapes};
 use host_types::limits::MAX_MAPS;
 use host_types::{Fault, Shape};
 use std::alloc::Global;
@@ -15,8 +15,8 @@ use turn::Seat;
 use verifier::{Verified, is_context_size};
 
 impl Shared {
-    /// Judges a text as a program of the seat's tenant, with the maps that it has and a context of so many
-    /// bytes. The seat's part stays, and no turn is held while the text is judged.
+    /// Verifies a text as a program of the seat's tenant, with the maps that it has and a context of so many
+    /// bytes. The seat's part stays, and no turn is held while the text is verified.
     ///
     /// Refusals in their order: 39 where the context's size is above 256 or no multiple of 8, the text's
     /// first fault, 1 to 5, or else the first rule that it breaks, 11 to 25; 41 where memory ran out, and only
@@ -42,7 +42,7 @@ impl Shared {
             return Err(Fault::BadContext);
         }
         let shapes = self.shapes(rt, seat);
-        judge(alloc, shapes.as_slice(), text, ctx_size)
+        decode_and_verify(alloc, shapes.as_slice(), text, ctx_size)
     }
 
     /// The shapes of the maps of the seat's tenant by number: `None` where it has no such map.

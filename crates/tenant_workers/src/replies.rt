@@ -29,8 +29,8 @@ impl Shared {
         ensures replies { AllReply plan.old.programs.items (map (λ run. (run.0, run.1.items)) plan.old.runs.items)
             plan.old.seat plan.new.replies.items plan.new.seat }
     {
-        for place in 0..plan.runs.len() {
-            let (number, context) = &plan.runs[place];
+        for entry_index in 0..plan.runs.len() {
+            let (number, context) = &plan.runs[entry_index];
             let reply = self.run_numbered(
                 rt,
                 alloc,
@@ -40,7 +40,7 @@ impl Shared {
                 context,
                 gate,
             );
-            plan.replies[place] = reply;
+            plan.replies[entry_index] = reply;
             gate.pass(rt, Passed::Run);
         }
     }

@@ -1,10 +1,10 @@
 ghost use Rattle.std.specs.Prelude.{◌≡◌, ◌⊎◌, IfOk, OnOk, IfErr, OnErr};
 ghost use Rattle.interp.specs.Fits.{HaveShapes};
 ghost use Rattle.page_table.specs.State.{part};
-ghost use Rattle.page_table.specs.Changes.{IsKeptBut, with_run, without_run};
+ghost use Rattle.page_table.specs.Changes.{OtherTenantsUnchanged, with_run, without_run};
 ghost use Rattle.verifier.specs.Named.{named_shapes};
 ghost use Rattle.admission.specs.Reserve.{needed_from};
-ghost use Rattle.host_calls.specs.Calls.{IsThere, TellsHave};
+ghost use Rattle.host_calls.specs.Calls.{IsThere, NamesHave};
 ghost use Rattle.tenant_runs.specs.UnderWay.{HasRun};
 ghost use Rattle.turn.specs.Seats.{IsIdle, own_part};
 ghost use Rattle.tenant_workers.specs.Calls.{HasChanged, HasGoneOn, IsSameSeat, IsUnchanged, memory_left};
@@ -32,7 +32,7 @@ impl Shared {
     /// turns, within as many steps as the program has instructions.
     ///
     /// Refusals in their order: 38 where a map that the program names and has a shape for isn't the tenant's with
-    /// that shape, 31 just where the run may need more than the frames that may be had; it tells both numbers. A
+    /// that shape, 31 just where the run may need more than the frames that may be had; it names both numbers. A
     /// refusal changes nothing. The tenant has no other open run, and none afterwards.
     pub fn run(
         &self,
@@ -51,7 +51,7 @@ impl Shared {
         ensures turns { HasGoneOn seat.old seat.new }
         ensures ran { IfOk result (HasRun program.now run.context (own_part seat.old) (own_part seat.new)) }
         ensures refused { IfErr result (RefusesRunOfTenant program.now (own_part seat.old)) }
-        ensures told { IfErr result (TellsHave (memory_left seat.new)) }
+        ensures reported { IfErr result (NamesHave (memory_left seat.new)) }
         ensures kept { OnErr result (own_part seat.new ≡ own_part seat.old) }
         ensures unchanged { OnErr result (HasChanged IsUnchanged seat.old seat.new) }
     {
@@ -84,7 +84,7 @@ impl Shared {
         ensures turns { HasGoneOn seat.old seat.new }
         ensures ran { IfOk result (HasRun program.now context.now (own_part seat.old) (own_part seat.new)) }
         ensures refused { IfErr result (RefusesRunOnContext program.now context.now (own_part seat.old)) }
-        ensures told { IfErr result (TellsHave (memory_left seat.new)) }
+        ensures reported { IfErr result (NamesHave (memory_left seat.new)) }
         ensures enough { IfErr result (HasFramesForRun program.now (own_part seat.old) (memory_left seat.new)) }
         ensures kept { OnErr result (own_part seat.new ≡ own_part seat.old) }
         ensures unchanged { IfErr result (HasRefusedRun seat.old seat.new) }
@@ -103,7 +103,7 @@ impl Shared {
         ensures idle { IsIdle self.now seat.new }
         ensures same { IsSameSeat seat.old seat.new }
         ensures refused { RefusesRunOfTenant program.now (own_part seat.old) result ⊎ LacksMemory program.now (own_part seat.old) result }
-        ensures told { TellsHave (memory_left seat.new) result }
+        ensures reported { NamesHave (memory_left seat.new) result }
         ensures enough { HasFramesForRun program.now (own_part seat.old) (memory_left seat.new) result }
         ensures kept { own_part seat.new ≡ own_part seat.old }
         ensures unchanged { HasChanged IsUnchanged seat.old seat.new }
@@ -126,7 +126,7 @@ impl Shared {
             (own_part seat.new ≡ with_run (needed_from program.now (own_part seat.old) 0) (own_part seat.old)) }
         ensures turns { HasGoneOn seat.old seat.new }
         ensures refused { IfErr result (RefusesRunOfTenant program.now (own_part seat.old)) }
-        ensures told { IfErr result (TellsHave (memory_left seat.new)) }
+        ensures reported { IfErr result (NamesHave (memory_left seat.new)) }
         ensures kept { OnErr result (own_part seat.new ≡ own_part seat.old) }
         ensures unchanged { OnErr result (HasChanged IsUnchanged seat.old seat.new) }
     {
@@ -155,7 +155,7 @@ impl Shared {
 /// What a tenant lacks for a run of a program: the program's maps, or else frames, or else memory of the host.
 fn want_for_run(memory: &Memory, tenant: u32, program: &Verified) -> Fault
     ensures refused { RefusesRunOfTenant program.now (part memory.now tenant) result ⊎ LacksMemory program.now (part memory.now tenant) result }
-    ensures told { TellsHave memory.now result }
+    ensures reported { NamesHave memory.now result }
     ensures enough { HasFramesForRun program.now (part memory.now tenant) memory.now result }
 {
     let has_maps = has_shapes(memory, tenant, program);
@@ -177,9 +177,9 @@ fn begin_run(memory: &mut Memory, tenant: u32, program: &Verified) -> Result<(),
     ensures shapes { OnOk result (HaveShapes (named_shapes program.now.subject) (part memory.old tenant).maps) }
     ensures recorded { OnOk result
         (part memory.new tenant ≡ with_run (needed_from program.now (part memory.old tenant) 0) (part memory.old tenant)) }
-    ensures others { IsKeptBut tenant memory.old memory.new }
+    ensures others { OtherTenantsUnchanged tenant memory.old memory.new }
     ensures refused { IfErr result (RefusesRunOfTenant program.now (part memory.old tenant)) }
-    ensures told { IfErr result (TellsHave memory.old) }
+    ensures reported { IfErr result (NamesHave memory.old) }
     ensures unchanged { OnErr result (memory.new ≡ memory.old) }
 {
     if !has_shapes(memory, tenant, program) {

@@ -17,11 +17,11 @@ impl Shared {
         ensures visits { HasVisited visits seat.old seat.new }
         ensures visited { 0 < visits → IsVisited (memory_left seat.new) }
     {
-        self.scan_told(rt, seat, visits, &Open);
+        self.scan_answered(rt, seat, visits, &Open);
     }
 
-    /// So many visits of the scanner, after each of which the gate is told.
-    pub(crate) fn scan_told(
+    /// So many visits of the scanner, after each of which the gate is reported.
+    pub(crate) fn scan_answered(
         &self,
         rt: &impl Wait,
         seat: &mut ScanSeat,

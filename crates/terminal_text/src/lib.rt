@@ -1,4 +1,4 @@
-//! Text from outside, told so that no character of it steers a terminal.
+//! Text from outside, reported so that no character of it steers a terminal.
 #![tactic(auto)]
 
 ghost use Rattle.std.specs.Prelude.{◌≡◌, ◌↔◌, ◌++◌, IfOk, Any, IsTrue, OnOk};
@@ -21,34 +21,34 @@ const STEERING: [(u32, u32); 10] = [
     (0xe0000, 0xe007f),
 ];
 
-/// The most characters that are told of a text.
+/// The most characters that are reported of a text.
 const MOST: usize = 40;
 
-/// A text from outside as it is told: no more than 40 characters of it, and two dots where there are more.
-/// A character that could steer a terminal is told by its number.
+/// A text from outside as it is reported: no more than 40 characters of it, and two dots where there are more.
+/// A character that could steer a terminal is reported by its number.
 pub fn quoted(alloc: Global, text: &str) -> Result<String, AllocError>
-    ensures { IfOk result (λ told. IsPlainText (string_bytes told)) }
+    ensures { IfOk result (λ shown. IsPlainText (string_bytes shown)) }
 {
-    let mut told = String::new(alloc);
+    let mut shown = String::new(alloc);
     for c in text.chars().take(MOST) {
-        push_plain(&mut told, c)?;
+        push_plain(&mut shown, c)?;
     }
     if text.chars().count() > MOST {
-        told.push_str("..")?;
+        shown.push_str("..")?;
     }
-    Ok(told)
+    Ok(shown)
 }
 
 /// Adds a character, or its number where it could steer a terminal.
-fn push_plain(told: &mut String, c: char) -> Result<(), AllocError>
-    ensures { OnOk result (IsPlainText (string_bytes told.old) → IsPlainText (string_bytes told.new)) }
+fn push_plain(shown: &mut String, c: char) -> Result<(), AllocError>
+    ensures { OnOk result (IsPlainText (string_bytes shown.old) → IsPlainText (string_bytes shown.new)) }
 {
     if is_plain(c) {
-        told.push(c)?;
+        shown.push(c)?;
         return Ok(());
     }
     for escaped in c.escape_unicode() {
-        told.push(escaped)?;
+        shown.push(escaped)?;
     }
     Ok(())
 }

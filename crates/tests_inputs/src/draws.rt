@@ -11,7 +11,7 @@ pub struct Draws {
 }
 
 impl Draws {
-    /// The generator that begins behind a number.
+    /// The generator that begins after a number.
     pub fn new(seed: u64) -> Self {
         Draws { last: seed }
     }

@@ -1,5 +1,5 @@
 //! What several test programs and benches are given: numbers of a fixed generator, texts of programs, flips of a
-//! bit, places of pages, and the number that the one argument is.
+//! bit, indices of pages, and the number that the one argument is.
 #![tactic(auto)]
 
 mod arguments;

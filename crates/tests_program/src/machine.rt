@@ -2,7 +2,7 @@
 
 use crate::text::{EXIT, context_of, text_of};
 use host_types::Shape;
-use plain_machine::{ArrayMap, Ending, Machine};
+use reference_machine::{ArrayMap, Ending, Machine};
 use std::alloc::{AllocError, Global};
 use std::test::Fail;
 

@@ -8,7 +8,7 @@ use Rattle.std.proofs.lemmas.Cmp.{nat_list_cmp_total, alike_right}
 use Rattle.std.proofs.lemmas.List.Elements.{All-nil, All-cons, All-head, All-tail, All-weaker}
 use Rattle.std.proofs.lemmas.List.Kept.{AllPairs-cons}
 use Rattle.tree_shape.specs.Shape.{Tree, leaf, fork, in_order}
-use Rattle.tree_shape.proofs.Order.{IsBefore, IsBehind, IsAligned}
+use Rattle.tree_shape.proofs.Order.{IsBefore, IsFollowing, IsAligned}
 
 pairs-head : {X : Type 0} (R : X → X → Type 0) (x : X) (xs : List X) → AllPairs R (x ∷ xs) → All (R x) xs
 pairs-head R x xs pairs = λ k d less. pairs 0 (suc k) d (omega arith) (omega (arith, less))
@@ -24,17 +24,17 @@ all-back : {X : Type 0} (P : X → Type 0) (xs ys : List X) → All P (xs ++ ys)
 all-back P [] ys all = all
 all-back P (x ∷ xs) ys all = all-back P xs ys (All-tail P x (xs ++ ys) all)
 
--- what pairs tell where a list is cut at an element
+-- what pairs say where a list is cut at an element
 record AreCut {X : Type 0} (R : X → X → Type 0) (xs : List X) (at : X) (ys : List X) : Type 0 where
   before : All (λ p. R p at) xs
-  behind : All (R at) ys
+  following : All (R at) ys
   fronts : AllPairs R xs
   backs : AllPairs R ys
 
 cut-pairs : {X : Type 0} (R : X → X → Type 0) (xs : List X) (at : X) (ys : List X) → AllPairs R (xs ++ at ∷ ys) → AreCut R xs at ys
 cut-pairs R [] at ys pairs = record {
   before = All-nil (λ p. R p at);
-  behind = pairs-head R at ys pairs;
+  following = pairs-head R at ys pairs;
   fronts = λ i j d less within. absurd (omega (arith, within));
   backs = pairs-tail R at ys pairs;
 }
@@ -43,7 +43,7 @@ cut-pairs R (x ∷ xs) at ys pairs =
     let heads = pairs-head R x (xs ++ at ∷ ys) pairs in
     record {
       before = All-cons (λ p. R p at) x xs (All-head (R x) at ys (all-back (R x) xs (at ∷ ys) heads)) rest.before;
-      behind = rest.behind;
+      following = rest.following;
       fronts = AllPairs-cons R x xs (all-front (R x) xs (at ∷ ys) heads) rest.fronts;
       backs = rest.backs;
     }
@@ -64,13 +64,13 @@ module _ (content : ℕ → List ℕ) (bytes : List ℕ) where
   ascending-aligned (fork at l r) pairs =
       let cut = cut-pairs rises (in_order l) at (in_order r) pairs in (
         (λ e. All-weaker (λ p. rises p at) (IsBefore order) (λ p less. nat_list_cmp_total.trans (content p) (content at) bytes less e) (in_order l) cut.before),
-        (λ e. All-weaker (rises at) (IsBehind order)
+        (λ e. All-weaker (rises at) (IsFollowing order)
             (λ q less. nat_list_cmp_total.antisymm (content q) bytes ∙ ap ordering_reverse (nat_list_cmp_total.trans bytes (content at) (content q) (greater-turned at e) less))
-            (in_order r) cut.behind),
+            (in_order r) cut.following),
         ascending-aligned l cut.fronts,
         ascending-aligned r cut.backs,
         (λ e. All-weaker (λ p. rises p at) (IsBefore order) (λ p less. sym (alike_right nat_list_cmp_total (content at) bytes (content p) e) ∙ less) (in_order l) cut.before),
-        (λ e. All-weaker (rises at) (IsBehind order)
+        (λ e. All-weaker (rises at) (IsFollowing order)
             (λ q less. nat_list_cmp_total.antisymm (content q) bytes ∙ ap ordering_reverse (sym (nat_list_cmp_total.congr (content at) bytes (content q) e) ∙ less))
-            (in_order r) cut.behind),
+            (in_order r) cut.following),
       )

@@ -1,4 +1,4 @@
--- What is put in or taken out changes a tree's levels by one at most, and keeps the places of the others in order.
+-- What is put in or taken out changes a tree's levels by one at most, and keeps the slots of the others in order.
 use Rattle.std.proofs.Common.{◌≡◌, ℕ, suc, ◌+◌, ◌<◌, ◌≤◌, nat_lt, Bool, true, false, if◌then◌else◌, List, [], ◌∷◌, ◌++◌, max, refl, sym, ap, ◌∙◌, arith, append_assoc}
 use Rattle.std.specs.declared.cmp.Ordering.{Ordering}
 use Rattle.std.specs.declared.cmp.Ordering.TheVariants.{Less, Equal, Greater}
@@ -82,14 +82,14 @@ module _ (s : Bool) (at : ℕ) (t u : Tree) (even : IsEven (sided s (fork at) t 
   grown : IsGrown t new → IsGrown (sided s (fork at) t u) (sided s (balanced_at at) new u)
   grown is =
       let now = changed is.even (omega (arith, is.least)) is.most in
-      let told = changed-levels (levels t) (levels u) (levels new) (levels (sided s (balanced_at at) new u)) (levels (sided s (fork at) t u)) now.1 in
-      record { even = now.0; least = told.0 is.least; most = told.1 is.most }
+      let answered = changed-levels (levels t) (levels u) (levels new) (levels (sided s (balanced_at at) new u)) (levels (sided s (fork at) t u)) now.1 in
+      record { even = now.0; least = answered.0 is.least; most = answered.1 is.most }
 
   shrunk : IsShrunk t new → IsShrunk (sided s (fork at) t u) (sided s (balanced_at at) new u)
   shrunk is =
       let now = changed is.even is.least (omega (arith, is.most)) in
-      let told = changed-levels (levels t) (levels u) (levels new) (levels (sided s (balanced_at at) new u)) (levels (sided s (fork at) t u)) now.1 in
-      record { even = now.0; least = told.2 is.least; most = told.3 is.most }
+      let answered = changed-levels (levels t) (levels u) (levels new) (levels (sided s (balanced_at at) new u)) (levels (sided s (fork at) t u)) now.1 in
+      record { even = now.0; least = answered.2 is.least; most = answered.3 is.most }
 
 same-grown : (t : Tree) → IsEven t → IsGrown t t
 same-grown t even = record { even = even; least = omega arith; most = omega arith }
@@ -97,7 +97,7 @@ same-grown t even = record { even = even; least = omega arith; most = omega arit
 same-shrunk : (t : Tree) → IsEven t → IsShrunk t t
 same-shrunk t even = record { even = even; least = omega arith; most = omega arith }
 
--- a place that is put in
+-- a slot that is put in
 pub entered-grown : (order : ℕ → Ordering) (new : ℕ) (t : Tree) → IsEven t → IsGrown t (entered order new t)
 unfolding entered
 entered-grown order new leaf even =
@@ -121,7 +121,7 @@ alone-shrunk s at t even =
     let all = levels-sided s at leaf t in
     record { even = sides.3; least = omega (arith, none, all); most = omega (arith, none, all) }
 
--- the first place that is taken out
+-- the first slot that is taken out
 pub without_least-shrunk : (at : ℕ) (l r : Tree) → IsEven (fork at l r) → IsShrunk (fork at l r) (without_least at l r)
 unfolding without_least
 without_least-shrunk at leaf r even = alone-shrunk true at r even
@@ -155,7 +155,7 @@ tree_without-shrunk order (fork at l r) even =
     by_test Equal left right = joined_sides-shrunk at l r even
     by_test Greater left right = shrunk true at l r even (tree_without order l) left
 
--- the places in order
+-- the slots in order
 pub in_order-least : (at : ℕ) (l r : Tree) → least at l ∷ in_order (without_least at l r) ≡ in_order l ++ at ∷ in_order r
 unfolding in_order least without_least
 in_order-least at leaf r = refl
@@ -169,15 +169,15 @@ in_order-joined_sides l leaf = sym (append-nil (in_order l))
 in_order-joined_sides l (fork top a b) =
     in_order-balanced_at (least top a) l (without_least top a b) ∙ ap (λ xs. in_order l ++ xs) (in_order-least top a b)
 
--- Where a place is put in, unless one of an equal content is there.
+-- Where a slot is put in, unless one of an equal content is there.
 pub data IsEntered (order : ℕ → Ordering) (new : ℕ) (old now : List ℕ) : Type 0 where
   put : (earlier later : List ℕ) → old ≡ earlier ++ later → now ≡ earlier ++ new ∷ later → IsEntered order new old now
   there : (at : ℕ) (earlier later : List ℕ) → order at ≡ Equal → old ≡ earlier ++ at ∷ later → now ≡ old → IsEntered order new old now
 
-pub entered-places : (order : ℕ → Ordering) (new : ℕ) (t : Tree) → IsEntered order new (in_order t) (in_order (entered order new t))
+pub entered-slots : (order : ℕ → Ordering) (new : ℕ) (t : Tree) → IsEntered order new (in_order t) (in_order (entered order new t))
 unfolding entered in_order
-entered-places order new leaf = put [] [] refl refl
-entered-places order new (fork at l r) = by_test (order at) refl (entered-places order new l) (entered-places order new r)
+entered-slots order new leaf = put [] [] refl refl
+entered-slots order new (fork at l r) = by_test (order at) refl (entered-slots order new l) (entered-slots order new r)
   where
     by_test : (o : Ordering) → order at ≡ o → IsEntered order new (in_order l) (in_order (entered order new l)) → IsEntered order new (in_order r) (in_order (entered order new r))
         → IsEntered order new (in_order l ++ at ∷ in_order r) (in_order (by_order o (balanced_at at l (entered order new r)) (fork at l r) (balanced_at at (entered order new l) r)))
@@ -199,15 +199,15 @@ entered-places order new (fork at l r) = by_test (order at) refl (entered-places
         (ap (λ xs. xs ++ at ∷ in_order r) was ∙ append_assoc earlier (found ∷ later) (at ∷ in_order r))
         (in_order-balanced_at at (entered order new l) r ∙ ap (λ xs. xs ++ at ∷ in_order r) is)
 
--- Where a place of an equal content is taken out, if the way down leads to one.
+-- Where a slot of an equal content is taken out, if the way down leads to one.
 pub data IsTaken (order : ℕ → Ordering) (old now : List ℕ) : Type 0 where
   gone : (at : ℕ) (earlier later : List ℕ) → order at ≡ Equal → old ≡ earlier ++ at ∷ later → now ≡ earlier ++ later → IsTaken order old now
   kept : now ≡ old → IsTaken order old now
 
-pub tree_without-places : (order : ℕ → Ordering) (t : Tree) → IsTaken order (in_order t) (in_order (tree_without order t))
+pub tree_without-slots : (order : ℕ → Ordering) (t : Tree) → IsTaken order (in_order t) (in_order (tree_without order t))
 unfolding tree_without in_order
-tree_without-places order leaf = kept refl
-tree_without-places order (fork at l r) = by_test (order at) refl (tree_without-places order l) (tree_without-places order r)
+tree_without-slots order leaf = kept refl
+tree_without-slots order (fork at l r) = by_test (order at) refl (tree_without-slots order l) (tree_without-slots order r)
   where
     by_test : (o : Ordering) → order at ≡ o → IsTaken order (in_order l) (in_order (tree_without order l)) → IsTaken order (in_order r) (in_order (tree_without order r))
         → IsTaken order (in_order l ++ at ∷ in_order r) (in_order (by_order o (balanced_at at l (tree_without order r)) (joined_sides l r) (balanced_at at (tree_without order l) r)))

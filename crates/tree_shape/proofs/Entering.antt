@@ -1,4 +1,4 @@
--- A place is put in at a node: what may be settled then, and what hangs in the end.
+-- A slot is put in at a node: what may be resolved then, and what hangs in the end.
 use Rattle.std.proofs.Common.{◌≡◌, ◌≢◌, ℕ, ◌+◌, ◌<◌, ◌≤◌, List, length, slice_index_or, slice_set, None, refl, sym, arith, Bool, true, false}
 use Rattle.std.specs.declared.cmp.Ordering.{Ordering}
 use Rattle.tree_shape.specs.declared.Node.{Node}
@@ -34,12 +34,12 @@ enter-none nodes frames pages link new order e leaf is = (
   found-leaf order,
   record {
     holds = rw (entered-leaf order new) (holds-joined nodes none new none leaf leaf is.inside is.some tt tt refl refl);
-    kept = kept-write nodes nodes (fork new leaf leaf) new (with_sides nodes none none) (kept-same nodes (fork new leaf leaf)) (λ place away same. away.0 (sym same));
+    kept = kept-write nodes nodes (fork new leaf leaf) new (with_sides nodes none none) (kept-same nodes (fork new leaf leaf)) (λ slot away same. away.0 (sym same));
   },
 )
 enter-none nodes frames pages link new order e (fork at l r) is = let same = is.sound.holds.0 in let some = is.sound.holds.1 in absurd (some (omega (arith, e, same)))
 
--- a node, and the place that is put in below it
+-- a node, and the slot that is put in below it
 pub record IsGrower (nodes : List Node) (frames : List ℕ) (pages : List (List ℕ)) (link new : ℕ) : Type 0 where
   pub l : Tree
   pub r : Tree
@@ -49,7 +49,7 @@ pub grower : (nodes : List Node) (frames : List ℕ) (pages : List (List ℕ)) (
 grower nodes frames pages link new some t is =
     with-node nodes link t (λ (t : Tree). IsGrowing nodes frames pages link new t → IsGrower nodes frames pages link new) is.sound.holds some (λ l r held. λ now. record { l = l; r = r; is = now }) is
 
--- the same, told by a side
+-- the same, reported by a side
 pub record IsGrowerBy (s : Bool) (nodes : List Node) (frames : List ℕ) (pages : List (List ℕ)) (link new : ℕ) : Type 0 where
   pub t : Tree
   pub u : Tree
@@ -69,7 +69,7 @@ module _ (s : Bool) (nodes : List Node) (frames : List ℕ) (pages : List (List 
   own : (link ≢ none) × (link < length nodes) × Holds nodes (far s node) t × Holds nodes (near s node) u
   own = parts s nodes link link t u is.sound.holds
 
-  -- how often a place stands beside the new one
+  -- how often a slot stands beside the new one
   sum-new : (i : ℕ) (w : Tree) → times i (fork new w leaf) ≡ times i w + here i new
   sum-new i w = let one = times-fork i new w leaf in let nought = times-leaf i in omega (arith, one, nought)
 
@@ -92,7 +92,7 @@ module _ (s : Bool) (nodes : List Node) (frames : List ℕ) (pages : List (List 
         some = is.some;
       }
 
-  -- the new place stands on the far side now
+  -- the new slot stands on the far side now
   module _ (order : ℕ → Ordering) (mid : List Node) (root : ℕ) (hung : IsHung nodes mid root (entered order new t) (fork new t leaf)) where
     abbrev grown : Tree
     grown = entered order new t

@@ -13,7 +13,7 @@ unfolding Holds
 holds-link nodes link leaf holds some = absurd (some holds)
 holds-link nodes link (fork at l r) holds some = let same = holds.0 in let inside = holds.2 in omega (arith, same, inside)
 
--- and tells its levels
+-- and gives its levels
 pub holds-height : (nodes : List Node) (link : ℕ) (t : Tree) → Holds nodes link t → height_at nodes link ≡ levels t
 unfolding Holds levels
 holds-height nodes link leaf holds = let test : (link == none) ≡ true = grind (arith, nat_tests, holds) in rw test refl
@@ -23,20 +23,20 @@ holds-height nodes link (fork at l r) holds =
     let test : (link == none) ≡ false = grind (arith, nat_tests, same, some) in
     rw test (ap (λ (n : ℕ). (slice_index_or nodes n blank).height) same ∙ holds.3)
 
--- a tree without a place is apart from the node that stands there alone
-apart-alone : (place : ℕ) (t : Tree) → IsAway place t → AreApart t (fork place leaf leaf)
+-- a tree without a slot is apart from the node that stands there alone
+apart-alone : (slot : ℕ) (t : Tree) → IsAway slot t → AreApart t (fork slot leaf leaf)
 unfolding IsAway AreApart
-apart-alone place leaf away = tt
-apart-alone place (fork at l r) away = ((λ e. away.0 (sym e), tt, tt), apart-alone place l away.1, apart-alone place r away.2)
+apart-alone slot leaf away = tt
+apart-alone slot (fork at l r) away = ((λ e. away.0 (sym e), tt, tt), apart-alone slot l away.1, apart-alone slot r away.2)
 
--- a tree stays where another place is written
-pub holds-kept : (nodes : List Node) (place : ℕ) (node : Node) (link : ℕ) (t : Tree) → IsAway place t → Holds nodes link t → Holds (slice_set nodes place node) link t
+-- a tree stays where another slot is written
+pub holds-kept : (nodes : List Node) (slot : ℕ) (node : Node) (link : ℕ) (t : Tree) → IsAway slot t → Holds nodes link t → Holds (slice_set nodes slot node) link t
 unfolding IsAway
-holds-kept nodes place node link t away holds =
-    let size = length-set nodes place node in
-    holds-frame nodes (slice_set nodes place node) (fork place leaf leaf) link t
-    (record { size = omega (arith, size); others = λ other apart. get_or-set_other nodes place other node blank (λ e. apart.0 (sym e)) })
-    (apart-alone place t away) holds
+holds-kept nodes slot node link t away holds =
+    let size = length-set nodes slot node in
+    holds-frame nodes (slice_set nodes slot node) (fork slot leaf leaf) link t
+    (record { size = omega (arith, size); others = λ other apart. get_or-set_other nodes slot other node blank (λ e. apart.0 (sym e)) })
+    (apart-alone slot t away) holds
 
 -- a node between two sides
 pub holds-joined : (nodes : List Node) (left at right : ℕ) (l r : Tree) → at < length nodes → at ≢ none → IsAway at l → IsAway at r → Holds nodes left l → Holds nodes right r

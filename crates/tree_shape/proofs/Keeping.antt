@@ -1,4 +1,4 @@
--- What stays where only the places of some tree are written.
+-- What stays where only the slots of some tree are written.
 use Rattle.std.proofs.Common.{ℕ, ◌≤◌, List, slice_index_or, ◌∙◌, arith}
 use Rattle.tree_shape.specs.declared.Node.{Node}
 use Rattle.tree_shape.specs.Shape.{Tree, leaf, fork, Holds, IsAway, AreApart, IsShapeKept, blank}
@@ -29,4 +29,4 @@ pub kept-after : (old mid new : List Node) (v w all : Tree) → IsShapeKept old 
 kept-after old mid new v w all first second inner outer =
     let one = first.size in
     let two = second.size in
-    record { size = omega (arith, one, two); others = λ place away. second.others place (outer place away) ∙ first.others place (inner place away) }
+    record { size = omega (arith, one, two); others = λ slot away. second.others slot (outer slot away) ∙ first.others slot (inner slot away) }

@@ -1,4 +1,4 @@
--- Where the contents of a tree's places ascend, those before a place that is taken out come before it, and those behind it after it.
+-- Where the contents of a tree's slots ascend, those before a slot that is taken out come before it, and those after it after it.
 use Rattle.std.proofs.Common.{◌≡◌, ℕ, List, ◌∷◌, ◌++◌, Option, None, Some, refl, sym, ap, ◌∙◌, append_assoc}
 use Rattle.std.specs.List.{All}
 use Rattle.std.proofs.lemmas.List.Elements.{All-append, All-cons}
@@ -9,11 +9,11 @@ use Rattle.tree_shape.specs.Turns.{balanced_at}
 use Rattle.tree_shape.specs.Changes.{by_order, found, joined_sides, tree_without}
 use Rattle.tree_shape.proofs.Turning.{in_order-balanced_at}
 use Rattle.tree_shape.proofs.Changing.{in_order-joined_sides}
-use Rattle.tree_shape.proofs.Order.{IsBefore, IsBehind, IsAligned}
+use Rattle.tree_shape.proofs.Order.{IsBefore, IsFollowing, IsAligned}
 
--- a place goes from between the earlier ones and the later ones
+-- a slot goes from between the earlier ones and the later ones
 pub data IsLeaving (order : ℕ → Ordering) (out : ℕ) (old now : List ℕ) : Type 0 where
-  leaving : (earlier later : List ℕ) → All (IsBefore order) earlier → All (IsBehind order) later → order out ≡ Equal → old ≡ earlier ++ out ∷ later → now ≡ earlier ++ later → IsLeaving order out old now
+  leaving : (earlier later : List ℕ) → All (IsBefore order) earlier → All (IsFollowing order) later → order out ≡ Equal → old ≡ earlier ++ out ∷ later → now ≡ earlier ++ later → IsLeaving order out old now
 
 none-some : (out : ℕ) (found : Option ℕ) → found ≡ None → found ≡ Some out → ⊥
 none-some out found lacks is = cc
@@ -29,17 +29,17 @@ tree_without-leaving order out (fork at l r) aligned is =
   where
     on_right : All (IsBefore order) (in_order l) → order at ≡ Less → IsLeaving order out (in_order r) (in_order (tree_without order r))
         → IsLeaving order out (in_order l ++ at ∷ in_order r) (in_order (balanced_at at l (tree_without order r)))
-    on_right lefts less (leaving earlier later before behind equal was now) =
+    on_right lefts less (leaving earlier later before following equal was now) =
         leaving (in_order l ++ at ∷ earlier) later
-        (All-append (IsBefore order) (in_order l) (at ∷ earlier) lefts (All-cons (IsBefore order) at earlier less before)) behind equal
+        (All-append (IsBefore order) (in_order l) (at ∷ earlier) lefts (All-cons (IsBefore order) at earlier less before)) following equal
         (ap (λ xs. in_order l ++ at ∷ xs) was ∙ sym (append_assoc (in_order l) (at ∷ earlier) (out ∷ later)))
         (in_order-balanced_at at l (tree_without order r) ∙ ap (λ xs. in_order l ++ at ∷ xs) now ∙ sym (append_assoc (in_order l) (at ∷ earlier) later))
 
-    on_left : All (IsBehind order) (in_order r) → order at ≡ Greater → IsLeaving order out (in_order l) (in_order (tree_without order l))
+    on_left : All (IsFollowing order) (in_order r) → order at ≡ Greater → IsLeaving order out (in_order l) (in_order (tree_without order l))
         → IsLeaving order out (in_order l ++ at ∷ in_order r) (in_order (balanced_at at (tree_without order l) r))
-    on_left rights greater (leaving earlier later before behind equal was now) =
+    on_left rights greater (leaving earlier later before following equal was now) =
         leaving earlier (later ++ at ∷ in_order r) before
-        (All-append (IsBehind order) later (at ∷ in_order r) behind (All-cons (IsBehind order) at (in_order r) greater rights)) equal
+        (All-append (IsFollowing order) later (at ∷ in_order r) following (All-cons (IsFollowing order) at (in_order r) greater rights)) equal
         (ap (λ xs. xs ++ at ∷ in_order r) was ∙ append_assoc earlier (out ∷ later) (at ∷ in_order r))
         (in_order-balanced_at at (tree_without order l) r ∙ ap (λ xs. xs ++ at ∷ in_order r) now ∙ append_assoc earlier later (at ∷ in_order r))
 

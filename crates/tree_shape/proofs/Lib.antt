@@ -13,7 +13,7 @@ pub mod Keeping
 pub mod Searching
 pub mod Entering
 pub mod Entries
-pub mod Places
+pub mod Slots
 pub mod Shrinking
 pub mod Popping
 pub mod Merging

@@ -1,4 +1,4 @@
--- Two sides are merged by the first place of the right one.
+-- Two sides are merged by the first slot of the right one.
 use Rattle.std.proofs.Common.{◌≡◌, ◌≢◌, ℕ, ◌+◌, ◌<◌, ◌≤◌, List, length, slice_index_or, refl, sym, ap, subst, arith}
 use Rattle.tree_shape.specs.declared.Node.{Node}
 use Rattle.tree_shape.specs.declared.removal.Popped.{Popped}
@@ -9,7 +9,7 @@ use Rattle.tree_shape.specs.Removals.{IsShrinking, AreMerging, IsPopped}
 use Rattle.tree_shape.proofs.Changing.{without_least-shrunk}
 use Rattle.tree_shape.proofs.Opening.{with-node, kept-same}
 use Rattle.tree_shape.proofs.Times.{here, times, times-fork, times-once, apart-times}
-use Rattle.tree_shape.proofs.Places.{times-without, times-joined_sides}
+use Rattle.tree_shape.proofs.Slots.{times-without, times-joined_sides}
 use Rattle.tree_shape.proofs.Keeping.{holds-frame, away-within, kept-after}
 
 joined_sides-leaf : (l : Tree) → joined_sides l leaf ≡ l
@@ -20,7 +20,7 @@ joined_sides-fork : (l : Tree) (top : ℕ) (a b : Tree) → joined_sides l (fork
 unfolding joined_sides
 joined_sides-fork l top a b = refl
 
--- the first place is a node's
+-- the first slot is a node's
 holds-least : (nodes : List Node) (link at : ℕ) (l r : Tree) → Holds nodes link (fork at l r) → (least at l < length nodes) × (least at l ≢ none)
 unfolding Holds least
 holds-least nodes link at leaf r holds = (holds.2, holds.1)

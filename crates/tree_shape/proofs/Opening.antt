@@ -10,7 +10,7 @@ use Rattle.tree_shape.proofs.Holding.{holds-link, holds-height}
 pub with-node : (nodes : List Node) (link : ℕ) (t : Tree) (P : Tree → Type 0) → Holds nodes link t → link ≢ none → ((a b : Tree) → Holds nodes link (fork link a b) → P (fork link a b)) → P t
 unfolding Holds
 with-node nodes link leaf P holds some then = absurd (some holds)
-with-node nodes link (fork place a b) P holds some then =
+with-node nodes link (fork slot a b) P holds some then =
     subst (λ (at : ℕ). Holds nodes link (fork at a b) → P (fork at a b)) holds.0 (λ held. then a b held) holds
 
 -- nothing hangs where there are no levels
@@ -23,12 +23,12 @@ joinable nodes left at right l r inside lefts rights low other =
     let two = holds-height nodes right r rights in
     record { inside = inside; lefts = holds-link nodes left l lefts; rights = holds-link nodes right r rights; low_left = omega (arith, one, low); low_right = omega (arith, two, other) }
 
--- a place of the tree is written
-pub kept-write : (old new : List Node) (t : Tree) (place : ℕ) (node : Node) → IsShapeKept old new t → ((other : ℕ) → IsAway other t → other ≢ place) → IsShapeKept old (slice_set new place node) t
-kept-write old new t place node kept away =
-    let size = length-set new place node in
+-- a slot of the tree is written
+pub kept-write : (old new : List Node) (t : Tree) (slot : ℕ) (node : Node) → IsShapeKept old new t → ((other : ℕ) → IsAway other t → other ≢ slot) → IsShapeKept old (slice_set new slot node) t
+kept-write old new t slot node kept away =
+    let size = length-set new slot node in
     let same = kept.size in
-    record { size = omega (arith, size, same); others = λ other apart. let ne : other ≢ place = away other apart in get_or-set_other new place other node blank ne ∙ kept.others other apart }
+    record { size = omega (arith, size, same); others = λ other apart. let ne : other ≢ slot = away other apart in get_or-set_other new slot other node blank ne ∙ kept.others other apart }
 
 pub kept-same : (nodes : List Node) (t : Tree) → IsShapeKept nodes nodes t
 kept-same nodes t = record { size = refl; others = λ other apart. refl }

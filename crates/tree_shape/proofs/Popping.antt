@@ -1,4 +1,4 @@
--- The first place of a tree is taken out, and two sides are merged by it.
+-- The first slot of a tree is taken out, and two sides are merged by it.
 use Rattle.std.proofs.Common.{true, ◌≡◌, ◌≢◌, ℕ, ◌≤◌, List, slice_index_or, refl, sym, ◌∙◌, subst, arith}
 use Rattle.tree_shape.specs.declared.Node.{Node}
 use Rattle.tree_shape.specs.declared.removal.Popped.{Popped}
@@ -9,7 +9,7 @@ use Rattle.tree_shape.specs.Removals.{IsShrinking, IsPopped}
 use Rattle.tree_shape.proofs.Changing.{without_least-shrunk}
 use Rattle.tree_shape.proofs.Opening.{with-node, kept-same}
 use Rattle.tree_shape.proofs.Times.{times}
-use Rattle.tree_shape.proofs.Places.{times-without}
+use Rattle.tree_shape.proofs.Slots.{times-without}
 use Rattle.tree_shape.proofs.Shrinking.{shrinking, shrunk-sides, shrunk-ready, shrunk-hung}
 
 without-fork : (at top : ℕ) (a b r : Tree) → without_least at (fork top a b) r ≡ balanced_at at (without_least top a b) r
@@ -20,11 +20,11 @@ least-fork : (at top : ℕ) (a b : Tree) → least at (fork top a b) ≡ least t
 unfolding least
 least-fork at top a b = refl
 
--- without the first place a tree has no place more, and no level more
+-- without the first slot a tree has no slot more, and no level more
 without-few : (at : ℕ) (l r : Tree) (i : ℕ) → times i (without_least at l r) ≤ times i (fork at l r)
 without-few at l r i = let e = times-without i at l r in omega (arith, e)
 
--- no place comes before a node with nothing on its left
+-- no slot comes before a node with nothing on its left
 pub pop-here : (nodes : List Node) (link : ℕ) → (slice_index_or nodes link blank).left ≡ none → (l r : Tree) → IsShrinking nodes link (fork link l r)
     → IsPopped nodes nodes link l r (record { first = link; root = (slice_index_or nodes link blank).right })
 unfolding Holds least without_least

@@ -34,7 +34,7 @@ pub found-leaf : (order : ℕ → Ordering) → found order leaf ≡ None
 unfolding found
 found-leaf order = refl
 
--- how a place stands to what is on a node's far side
+-- how a slot stands to what is on a node's far side
 abbrev pub toward : Bool → Ordering
 toward true = Greater
 toward false = Less
@@ -108,7 +108,7 @@ module _ (nodes : List Node) (frames : List ℕ) (pages : List (List ℕ)) (link
       with-sided s nodes link t (λ (t : Tree). IsSearched nodes frames pages link t → result ≡ found order t) is.holds some
       (λ a b. λ here. rw (found-side s order link a b e) (inner a (searched-side s nodes frames pages link a b here))) is
 
-  -- a step down leads on to what hangs there, and tells what is found of that
+  -- a step down leads on to what hangs there, and says what is found of that
   pub find-on : (s : Bool) → link ≢ none → order link ≡ toward s → (t : Tree) → IsSearched nodes frames pages link t → LeadsOn s
   find-on s some e t is =
       with-sided s nodes link t (λ (t : Tree). IsSearched nodes frames pages link t → LeadsOn s) is.holds some

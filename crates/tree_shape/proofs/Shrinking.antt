@@ -1,4 +1,4 @@
--- A place is taken out below a node: what may be settled then, and what hangs in the end.
+-- A slot is taken out below a node: what may be resolved then, and what hangs in the end.
 use Rattle.std.proofs.Common.{◌≢◌, ℕ, ◌+◌, ◌<◌, ◌≤◌, Bool, List, length, slice_index_or, arith}
 use Rattle.tree_shape.specs.declared.Node.{Node}
 use Rattle.tree_shape.specs.Shape.{Tree, fork, levels, Holds, IsHung, none, blank}

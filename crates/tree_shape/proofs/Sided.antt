@@ -1,4 +1,4 @@
--- The levels of a node, told of its far and near side.
+-- The levels of a node, reported of its far and near side.
 use Rattle.std.proofs.Common.{◌≡◌, ℕ, suc, Bool, true, false, max, refl, ap, arith}
 use Rattle.tree_shape.specs.Shape.{Tree, fork, levels}
 use Rattle.tree_shape.specs.Sides.{sided}

@@ -1,4 +1,4 @@
--- What stands at two links and between them, told of a far and a near side.
+-- What stands at two links and between them, reported of a far and a near side.
 use Rattle.std.proofs.Common.{◌≡◌, ◌≢◌, ℕ, ◌+◌, ◌<◌, ◌≤◌, Bool, true, false, List, length, slice_index_or, slice_set, sym, subst, arith}
 use Rattle.tree_shape.specs.declared.Node.{Node}
 use Rattle.tree_shape.specs.Shape.{Tree, fork, levels, Holds, AreSides, IsShapeKept, none, blank, height_at, with_sides}
@@ -7,7 +7,7 @@ use Rattle.tree_shape.specs.Sides.{sided, far, near, IsJoinableBy, AreSidesBy, A
 use Rattle.tree_shape.proofs.Opening.{with-node, height-some, joinable, kept-write}
 use Rattle.tree_shape.proofs.Times.{here, times, times-fork, times-away, away-times, times-once, once-times}
 
--- two sides and the place between them, whichever is the left one
+-- two sides and the slot between them, whichever is the left one
 pub record AreHeld (nodes : List Node) (up at other : ℕ) (t o : Tree) : Type 0 where
   pub held : Holds nodes up t
   pub others : Holds nodes other o
@@ -67,7 +67,7 @@ pub with-sided : (s : Bool) (nodes : List Node) (link : ℕ) (t : Tree) (P : Tre
 with-sided true nodes link t P holds some then = with-node nodes link t P holds some (λ a b held. then a b)
 with-sided false nodes link t P holds some then = with-node nodes link t P holds some (λ a b held. then b a)
 
--- the nodes once a place is a node between two sides
+-- the nodes once a slot is a node between two sides
 abbrev pub joined_at : Bool → List Node → ℕ → ℕ → ℕ → List Node
 joined_at s nodes x at y = slice_set nodes at (sided s (with_sides nodes) x y)
 
@@ -76,16 +76,16 @@ pub joined : (s : Bool) (nodes : List Node) (x at y : ℕ) (t u : Tree) → at <
 joined true nodes x at y t u inside some nought one two = holds-joined nodes x at y t u inside some (times-away at t (omega (arith, nought))) (times-away at u (omega (arith, nought))) one two
 joined false nodes x at y t u inside some nought one two = holds-joined nodes y at x u t inside some (times-away at u (omega (arith, nought))) (times-away at t (omega (arith, nought))) two one
 
-pub stays : (nodes : List Node) (place : ℕ) (node : Node) (link : ℕ) (t : Tree) → times place t ≡ 0 → Holds nodes link t → Holds (slice_set nodes place node) link t
-stays nodes place node link t nought = holds-kept nodes place node link t (times-away place t nought)
+pub stays : (nodes : List Node) (slot : ℕ) (node : Node) (link : ℕ) (t : Tree) → times slot t ≡ 0 → Holds nodes link t → Holds (slice_set nodes slot node) link t
+stays nodes slot node link t nought = holds-kept nodes slot node link t (times-away slot t nought)
 
 pub joinable-by : (s : Bool) (nodes : List Node) (x at y : ℕ) (t u : Tree) → at < length nodes → Holds nodes x t → Holds nodes y u → levels t < none → levels u < none → IsJoinableBy s nodes x at y
 joinable-by true nodes x at y t u inside one two low other = joinable nodes x at y t u inside one two low other
 joinable-by false nodes x at y t u inside one two low other = joinable nodes y at x u t inside two one other low
 
--- a place is written that stands in the tree
-pub wrote : (old new : List Node) (t : Tree) (place : ℕ) (node : Node) → 1 ≤ times place t → IsShapeKept old new t → IsShapeKept old (slice_set new place node) t
-wrote old new t place node stands kept = kept-write old new t place node kept (λ other away e.
+-- a slot is written that stands in the tree
+pub wrote : (old new : List Node) (t : Tree) (slot : ℕ) (node : Node) → 1 ≤ times slot t → IsShapeKept old new t → IsShapeKept old (slice_set new slot node) t
+wrote old new t slot node stands kept = kept-write old new t slot node kept (λ other away e.
     let nought = away-times other t away in
     let is : 1 ≤ times other t = subst (λ (n : ℕ). 1 ≤ times n t) (sym e) stands in
     absurd (omega (arith, nought, is)))
@@ -101,10 +101,10 @@ pub record IsOpened (s : Bool) (nodes : List Node) (up at other : ℕ) : Type 0 
 
 pub opened : (s : Bool) {nodes : List Node} {up at other : ℕ} → IsHigher nodes up at other → IsOpened s nodes up at other
 opened s {nodes} {up} {at} {other} is =
-    let told = holds-height nodes up is.t is.are.held in
+    let answered = holds-height nodes up is.t is.are.held in
     let more = is.higher in
     with-sided s nodes up is.t (λ (t : Tree). AreHeld nodes up at other t is.o → levels t < none → levels is.o < levels t → IsOpened s nodes up at other)
-    is.are.held (height-some nodes up (omega (arith, told, more))) (λ a b are low higher. record { a = a; b = b; o = is.o; are = are; low = low; higher = higher })
+    is.are.held (height-some nodes up (omega (arith, answered, more))) (λ a b are low higher. record { a = a; b = b; o = is.o; are = are; low = low; higher = higher })
     is.are is.low is.higher
 
 -- and the near side of that node is one too
@@ -127,7 +127,7 @@ opened-twice s {nodes} {up} {at} {other} high more =
     (λ b c are low higher. record { a = is.a; b = b; c = c; o = is.o; are = are; low = low; higher = higher })
     is.are is.low is.higher
 
--- two sides, told by the far one
+-- two sides, reported by the far one
 sides : (nodes : List Node) (left at right : ℕ) (l r : Tree) → Holds nodes left l → Holds nodes right r → at < length nodes → at ≢ none → ((i : ℕ) → times i l + here i at + times i r ≤ 1) → AreSides nodes left at right l r
 sides nodes left at right l r lefts rights inside some most = record {
   lefts = lefts;

@@ -16,7 +16,7 @@ use Rattle.tree_shape.proofs.Changing.{tree_without-shrunk}
 use Rattle.tree_shape.proofs.Opening.{with-node, kept-same}
 use Rattle.tree_shape.proofs.Standing.{with-sided}
 use Rattle.tree_shape.proofs.Times.{times-fork}
-use Rattle.tree_shape.proofs.Places.{times-joined_sides, times-tree_without}
+use Rattle.tree_shape.proofs.Slots.{times-joined_sides, times-tree_without}
 use Rattle.tree_shape.proofs.Keeping.{away-within, kept-after}
 use Rattle.tree_shape.proofs.Searching.{toward, found-leaf, found-side, found-here, framed-side}
 use Rattle.tree_shape.proofs.Shrinking.{shrinking, shrunk-sides, shrunk-ready, shrunk-hung}
@@ -48,7 +48,7 @@ pub taker : (nodes : List Node) (frames : List ℕ) (pages : List (List ℕ)) (l
 taker nodes frames pages link some t is =
     with-node nodes link t (λ (t : Tree). IsTaking nodes frames pages link t → IsTaker nodes frames pages link) is.shrinks.sound.holds some (λ l r held. λ now. record { l = l; r = r; is = now }) is
 
--- the same, told by a side
+-- the same, reported by a side
 pub record IsTakerBy (s : Bool) (nodes : List Node) (frames : List ℕ) (pages : List (List ℕ)) (link : ℕ) : Type 0 where
   pub t : Tree
   pub u : Tree
@@ -70,19 +70,19 @@ module _ (nodes : List Node) (frames : List ℕ) (pages : List (List ℕ)) (link
   abbrev node : Node
   node = slice_index_or nodes link blank
 
-  abbrev Told : ℕ → List Node → Removed → Type 0
-  Told at now e = (t : Tree) → IsTaking nodes frames pages at t → IsRemoval nodes now order alone t e
+  abbrev Answered : ℕ → List Node → Removed → Type 0
+  Answered at now e = (t : Tree) → IsTaking nodes frames pages at t → IsRemoval nodes now order alone t e
 
-  by_side : (s : Bool) (now : List Node) (e : Removed) → ((t u : Tree) → IsTaking nodes frames pages link (sided s (fork link) t u) → IsRemoval nodes now order alone (sided s (fork link) t u) e) → Told link now e
-  by_side s now e told t is =
-      with-sided s nodes link t (λ (t : Tree). IsTaking nodes frames pages link t → IsRemoval nodes now order alone t e) is.shrinks.sound.holds some told is
+  by_side : (s : Bool) (now : List Node) (e : Removed) → ((t u : Tree) → IsTaking nodes frames pages link (sided s (fork link) t u) → IsRemoval nodes now order alone (sided s (fork link) t u) e) → Answered link now e
+  by_side s now e answered t is =
+      with-sided s nodes link t (λ (t : Tree). IsTaking nodes frames pages link t → IsRemoval nodes now order alone t e) is.shrinks.sound.holds some answered is
 
-  pub here-stays : order link ≡ Equal → alone link ≡ false → Told link nodes (Stays link)
+  pub here-stays : order link ≡ Equal → alone link ≡ false → Answered link nodes (Stays link)
   here-stays equal other = by_side true nodes (Stays link) (λ l r is. (found-here order link l r equal, other, refl))
 
   pub here-some : order link ≡ Equal → alone link ≡ true → (last : List Node) (result : ℕ) → ((l r : Tree) → AreMerging nodes node.left node.right l r → IsHung nodes last result (joined_sides l r) (joined_sides l r))
-      → Told link last (Out (record { place = link; root = result }))
-  here-some equal is_alone last result merge = by_side true last (Out (record { place = link; root = result })) (λ l r is.
+      → Answered link last (Out (record { slot = link; root = result }))
+  here-some equal is_alone last result merge = by_side true last (Out (record { slot = link; root = result })) (λ l r is.
       let hung = merge l r (taking-both nodes frames pages link l r is) in (
         found-here order link l r equal,
         is_alone,
@@ -96,27 +96,27 @@ module _ (nodes : List Node) (frames : List ℕ) (pages : List (List ℕ)) (link
 
   -- what came of it at one side
   module _ (s : Bool) (mid : List Node) where
-    pub side-none : order link ≡ toward s → Told (far s node) mid Nowhere → Told link mid Nowhere
+    pub side-none : order link ≡ toward s → Answered (far s node) mid Nowhere → Answered link mid Nowhere
     side-none e inner = by_side s mid Nowhere (λ t u is.
         let was = inner t (taking-side s nodes frames pages link t u is) in
         let found_is = found-side s order link t u e in
         (rw found_is was.0, was.1))
 
-    pub side-stays : order link ≡ toward s → (at : ℕ) → Told (far s node) mid (Stays at) → Told link mid (Stays at)
+    pub side-stays : order link ≡ toward s → (at : ℕ) → Answered (far s node) mid (Stays at) → Answered link mid (Stays at)
     side-stays e at inner = by_side s mid (Stays at) (λ t u is.
         let was = inner t (taking-side s nodes frames pages link t u is) in
         let found_is = found-side s order link t u e in
         (rw found_is was.0, was.1, was.2))
 
-    pub side-ready : (t u : Tree) → IsTaking nodes frames pages link (sided s (fork link) t u) → (out : Taken) → Told (far s node) mid (Out out) → AreReadyBy s mid out.root link (near s node)
+    pub side-ready : (t u : Tree) → IsTaking nodes frames pages link (sided s (fork link) t u) → (out : Taken) → Answered (far s node) mid (Out out) → AreReadyBy s mid out.root link (near s node)
     side-ready t u is out inner =
         let side = taking-side s nodes frames pages link t u is in
         let was = inner t side in
         shrunk-ready s nodes link t u is.shrinks mid out.root (tree_without order t) was.2 (λ i. times-tree_without order i t) (tree_without-shrunk order t side.shrinks.sound.even).most
 
-    pub side-some : order link ≡ toward s → (last : List Node) (out : Taken) (result : ℕ) → Told (far s node) mid (Out out)
-        → ((t u : Tree) → AreSidesBy s mid out.root link (near s node) t u → IsHung mid last result (sided s (balanced_at link) t u) (sided s (fork link) t u)) → Told link last (Out (record { place = out.place; root = result }))
-    side-some e last out result inner turn = by_side s last (Out (record { place = out.place; root = result })) (λ t u is.
+    pub side-some : order link ≡ toward s → (last : List Node) (out : Taken) (result : ℕ) → Answered (far s node) mid (Out out)
+        → ((t u : Tree) → AreSidesBy s mid out.root link (near s node) t u → IsHung mid last result (sided s (balanced_at link) t u) (sided s (fork link) t u)) → Answered link last (Out (record { slot = out.slot; root = result }))
+    side-some e last out result inner turn = by_side s last (Out (record { slot = out.slot; root = result })) (λ t u is.
         let side = taking-side s nodes frames pages link t u is in
         let was = inner t side in
         let few = λ (i : ℕ). times-tree_without order i t in

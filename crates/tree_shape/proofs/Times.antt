@@ -1,4 +1,4 @@
--- How often a place stands in a tree, as numbers: whether it is away, whether places stand once, and whether trees are apart.
+-- How often a slot stands in a tree, as numbers: whether it is away, whether slots stand once, and whether trees are apart.
 use Rattle.std.proofs.Common.{◌≡◌, ◌≢◌, ℕ, ◌+◌, ◌≤◌, ◌==◌, Bool, true, false, if◌then◌else◌, List, ◌∷◌, ◌++◌, ◌⊎◌, inl, inr, ⊎_elim, refl, sym, ap, ◌∙◌, subst, arith}
 use Rattle.std.specs.List.{sum_by}
 use Rattle.std.proofs.lemmas.Bool.Decides.{nat_tests}
@@ -8,7 +8,7 @@ use Rattle.tree_shape.specs.Shape.{Tree, leaf, fork, in_order, IsAway, AreApart,
 use Rattle.tree_shape.specs.Turns.{balanced_at}
 use Rattle.tree_shape.specs.Changes.{entered}
 use Rattle.tree_shape.proofs.Turning.{in_order-balanced_at}
-use Rattle.tree_shape.proofs.Changing.{IsEntered, put, there, entered-places}
+use Rattle.tree_shape.proofs.Changing.{IsEntered, put, there, entered-slots}
 
 abbrev pub here : ℕ → ℕ → ℕ
 here i at = if i == at then 1 else 0
@@ -124,7 +124,7 @@ apart-times l r apart left right i =
     let two = once-times r right i in
     ⊎_elim (λ (e : times i l ≡ 0). omega (arith, e, two)) (λ (e : times i r ≡ 0). omega (arith, e, one)) (apart-none i l r apart)
 
--- a place that is put in stands once more at most, and no place less
+-- a slot that is put in stands once more at most, and no slot less
 entered-list : (order : ℕ → Ordering) (new i : ℕ) (old now : List ℕ) → IsEntered order new old now → (sum_by (here i) old ≤ sum_by (here i) now) × (sum_by (here i) now ≤ sum_by (here i) old + here i new)
 entered-list order new i old now (put earlier later was is) =
     let one = ap (λ (xs : List ℕ). sum_by (here i) xs) was in
@@ -138,4 +138,4 @@ entered-list order new i old now (there at earlier later equal was is) =
 
 pub times-entered : (order : ℕ → Ordering) (new i : ℕ) (t : Tree) → times i (entered order new t) ≤ times i t + here i new
 unfolding times
-times-entered order new i t = (entered-list order new i (in_order t) (in_order (entered order new t)) (entered-places order new t)).1
+times-entered order new i t = (entered-list order new i (in_order t) (in_order (entered order new t)) (entered-slots order new t)).1

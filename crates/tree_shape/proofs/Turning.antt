@@ -1,4 +1,4 @@
--- What is settled has the same places in the same order, is even, and has the levels of its higher side or one more.
+-- What is resolved has the same slots in the same order, is even, and has the levels of its higher side or one more.
 use Rattle.std.proofs.Common.{◌≡◌, ℕ, suc, ◌+◌, ◌<◌, ◌≤◌, nat_lt, Bool, true, false, if◌then◌else◌, List, [], ◌∷◌, ◌++◌, max, refl, sym, ap, ◌∙◌, arith, append_assoc}
 use Rattle.tree_shape.specs.Shape.{Tree, leaf, fork, levels, in_order, IsEven}
 use Rattle.tree_shape.specs.Turns.{left_up, right_up, balanced_at}
@@ -13,7 +13,7 @@ pub levels-none : levels leaf ≡ 0
 unfolding levels
 levels-none = refl
 
--- a node's sides, told of one node
+-- a node's sides, reported of one node
 pub even-fork : (at : ℕ) (l r : Tree) → levels l ≤ levels r + 1 → levels r ≤ levels l + 1 → IsEven l → IsEven r → IsEven (fork at l r)
 unfolding IsEven
 even-fork at l r left right evenl evenr = (left, right, evenl, evenr)
@@ -30,7 +30,7 @@ pub even-sided : (s : Bool) (at : ℕ) (t u : Tree) → IsEven (sided s (fork at
 even-sided true at t u even = even-sides at t u even
 even-sided false at t u even = let is = even-sides at u t even in (is.1, is.0, is.3, is.2)
 
--- the places stay in order
+-- the slots stay in order
 turn-once : (a b r : List ℕ) (side at : ℕ) → a ++ side ∷ (b ++ at ∷ r) ≡ (a ++ side ∷ b) ++ at ∷ r
 turn-once a b r side at = sym (append_assoc a (side ∷ b) (at ∷ r))
 
@@ -84,8 +84,8 @@ pub record IsLevel (most : ℕ) (t : Tree) : Type 0 where
 sided-level : (s : Bool) (most at : ℕ) (t u : Tree) → levels t ≤ levels u + 1 → levels u ≤ levels t + 1 → IsEven t → IsEven u → most ≤ suc (max (levels t) (levels u)) → suc (max (levels t) (levels u)) ≤ most + 1
     → IsLevel most (sided s (fork at) t u)
 sided-level s most at t u few less event evenu least low =
-    let told = levels-sided s at t u in
-    record { even = sided-even s at t u few less event evenu; least = omega (arith, told, least); low = omega (arith, told, low) }
+    let answered = levels-sided s at t u in
+    record { even = sided-even s at t u few less event evenu; least = omega (arith, answered, least); low = omega (arith, answered, low) }
 
 -- which turn a node takes, as its code tests it
 pub up-once : (s : Bool) (at side : ℕ) (a b o : Tree) → levels b ≤ levels a → up_by s at (sided s (fork side) a b) o ≡ sided s (fork side) a (sided s (fork at) b o)
@@ -170,7 +170,7 @@ balanced_at-level at l r evenl evenr left right = by_test (nat_lt (levels r + 1)
         let less : levels r ≤ levels l + 1 = grind (arith, other) in
         sided-level true (max (levels l) (levels r)) at l r few less evenl evenr (omega arith) (omega arith)
 
--- the same told of either side
+-- the same reported of either side
 pub balanced_at-sided : (s : Bool) (at : ℕ) (t u : Tree) → IsEven t → IsEven u → levels t ≤ levels u + 2 → levels u ≤ levels t + 2 → IsLevel (max (levels t) (levels u)) (sided s (balanced_at at) t u)
 balanced_at-sided true at t u event evenu few less = balanced_at-level at t u event evenu few less
 balanced_at-sided false at t u event evenu few less =

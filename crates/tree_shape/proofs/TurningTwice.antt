@@ -64,8 +64,8 @@ module _ (s : Bool) (nodes : List Node) (up at other : ℕ) where
     other-stays : Holds first other o
     other-stays = let most = all-once up in let one = here-same up in stays nodes up _ other o (omega (arith, most, one)) are.others
 
-    place-inside : at < length first
-    place-inside = let size : length first ≡ length nodes = length-set nodes up _ in let inside = are.inside in omega (arith, size, inside)
+    slot-inside : at < length first
+    slot-inside = let size : length first ≡ length nodes = length-set nodes up _ in let inside = are.inside in omega (arith, size, inside)
 
     far-below : Holds second up (sided s (fork up) a b)
     far-below =
@@ -75,7 +75,7 @@ module _ (s : Bool) (nodes : List Node) (up at other : ℕ) where
         stays first at _ up (sided s (fork up) a b) (omega (arith, most, one, sum)) far-written
 
     near-below : Holds second at (sided s (fork at) c o)
-    near-below = let most = all-once at in let one = here-same at in joined s first (near s between) at other c o place-inside are.some (omega (arith, most, one)) near-stays other-stays
+    near-below = let most = all-once at in let one = here-same at in joined s first (near s between) at other c o slot-inside are.some (omega (arith, most, one)) near-stays other-stays
 
     within : top < length second
     within = let size : length first ≡ length nodes = length-set nodes up _ in let same : length second ≡ length first = length-set first at _ in let inside = inner.1 in omega (arith, size, same, inside)
@@ -128,7 +128,7 @@ module _ (s : Bool) (nodes : List Node) (up at other : ℕ) where
         let under = levels-sided s top is.b is.c in
         let low = is.low in
         let more = is.higher in
-        joinable-by s first (near s between) at other is.c is.o (place-inside is.a is.b is.c is.o is.are) (near-stays is.a is.b is.c is.o is.are) (other-stays is.a is.b is.c is.o is.are)
+        joinable-by s first (near s between) at other is.c is.o (slot-inside is.a is.b is.c is.o is.are) (near-stays is.a is.b is.c is.o is.are) (other-stays is.a is.b is.c is.o is.are)
         (omega (arith, sum, under, low)) (omega (arith, low, more))
 
     pub twice-third : IsJoinableBy s second up top at

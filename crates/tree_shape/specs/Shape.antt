@@ -1,8 +1,8 @@
--- The shape of a balanced search tree whose nodes stand in a list, each at a place.
+-- The shape of a balanced search tree whose nodes stand in a list, each at a slot.
 use Rattle.std.specs.Prelude.{◌≡◌, ◌≢◌, ⊤, ℕ, suc, ◌+◌, ◌<◌, ◌≤◌, List, [], ◌∷◌, ◌++◌, length, max, slice_index_or, ◌==◌, if◌then◌else◌}
 use Rattle.tree_shape.specs.declared.Node.{Node}
 
--- a node's place, and what hangs on its left and on its right
+-- a node's slot, and what hangs on its left and on its right
 pub data Tree : Type 0 where
   leaf : Tree
   fork : ℕ → Tree → Tree → Tree
@@ -11,7 +11,7 @@ unfoldable pub levels : Tree → ℕ
 levels leaf = 0
 levels (fork at l r) = suc (max (levels l) (levels r))
 
--- the places, from left to right
+-- the slots, from left to right
 unfoldable pub in_order : Tree → List ℕ
 in_order leaf = []
 in_order (fork at l r) = in_order l ++ at ∷ in_order r
@@ -47,22 +47,22 @@ IsLink nodes link = link ≢ none → link < length nodes
 abbrev pub with_sides : List Node → ℕ → ℕ → Node
 with_sides nodes left right = record { left = left; right = right; height = suc (max (height_at nodes left) (height_at nodes right)) }
 
--- a place isn't one of a tree's
+-- a slot isn't one of a tree's
 unfoldable pub IsAway : ℕ → Tree → Type 0
-IsAway place leaf = ⊤
-IsAway place (fork at l r) = (at ≢ place) × IsAway place l × IsAway place r
+IsAway slot leaf = ⊤
+IsAway slot (fork at l r) = (at ≢ slot) × IsAway slot l × IsAway slot r
 
--- two trees have no place in common
+-- two trees have no slot in common
 unfoldable pub AreApart : Tree → Tree → Type 0
 AreApart leaf r = ⊤
 AreApart (fork at a b) r = IsAway at r × AreApart a r × AreApart b r
 
--- each place stands once in a tree
+-- each slot stands once in a tree
 unfoldable pub IsOnce : Tree → Type 0
 IsOnce leaf = ⊤
 IsOnce (fork at l r) = IsAway at l × IsAway at r × AreApart l r × IsOnce l × IsOnce r
 
--- What stands at two links, and the place of a node to be set above both.
+-- What stands at two links, and the slot of a node to be set above both.
 pub record AreSides (nodes : List Node) (left at right : ℕ) (l r : Tree) : Type 0 where
   pub lefts : Holds nodes left l
   pub rights : Holds nodes right r
@@ -70,7 +70,7 @@ pub record AreSides (nodes : List Node) (left at right : ℕ) (l r : Tree) : Typ
   pub some : at ≢ none
   pub once : IsOnce (fork at l r)
 
--- What stands at two links and the place between them, where no side has as many levels as a link can tell.
+-- What stands at two links and the slot between them, where no side has as many levels as a link can give.
 pub record AreReady (nodes : List Node) (left at right : ℕ) : Type 0 where
   pub l : Tree
   pub r : Tree
@@ -86,12 +86,12 @@ pub record IsJoinable (nodes : List Node) (left at right : ℕ) : Type 0 where
   pub low_left : height_at nodes left < none
   pub low_right : height_at nodes right < none
 
--- only places of a tree are written, and none comes or goes
+-- only slots of a tree are written, and none comes or goes
 pub record IsShapeKept (old new : List Node) (t : Tree) : Type 0 where
   pub size : length new ≡ length old
-  pub others : (place : ℕ) → IsAway place t → slice_index_or new place blank ≡ slice_index_or old place blank
+  pub others : (slot : ℕ) → IsAway slot t → slice_index_or new slot blank ≡ slice_index_or old slot blank
 
--- what hangs at a link is a tree, where only places of another were written
+-- what hangs at a link is a tree, where only slots of another were written
 pub record IsHung (old new : List Node) (link : ℕ) (t written : Tree) : Type 0 where
   pub holds : Holds new link t
   pub kept : IsShapeKept old new written

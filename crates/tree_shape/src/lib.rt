@@ -12,7 +12,7 @@ pub mod search;
 /// The link of an empty side.
 pub const NONE: u32 = u32::MAX;
 
-/// A node of the tree, by the places of what hangs at it.
+/// A node of the tree, by the slots of what hangs at it.
 #[derive(Clone, Copy, Debug, PartialEq, Eq)]
 pub struct Node {
     pub left: u32,
@@ -51,7 +51,7 @@ pub fn height(nodes: &[Node], link: u32) -> u32
     nodes[link as usize].height
 }
 
-/// Makes a place a node between two sides.
+/// Makes a slot a node between two sides.
 pub fn join(nodes: &mut [Node], left: u32, at: u32, right: u32)
     requires { IsJoinable nodes.old left at right }
     ensures { nodes.new ≡ slice_set nodes.old at (with_sides nodes.old left right) }
@@ -64,7 +64,7 @@ pub fn join(nodes: &mut [Node], left: u32, at: u32, right: u32)
     };
 }
 
-/// Makes a place a node between two sides, the far one first.
+/// Makes a slot a node between two sides, the far one first.
 fn join_by(nodes: &mut [Node], left: bool, far: u32, at: u32, near: u32)
     requires { IsJoinableBy left nodes.old far at near }
     ensures { nodes.new ≡ slice_set nodes.old at (sided left (with_sides nodes.old) far near) }
@@ -97,8 +97,8 @@ fn side_up(nodes: &mut [Node], left: bool, up: u32, at: u32, other: u32) -> u32
     inner
 }
 
-/// Makes a place a node between two sides, and turns it where one is two levels higher. Tells the first node's place.
-fn settle(nodes: &mut [Node], left: u32, at: u32, right: u32) -> u32
+/// Makes a slot a node between two sides, and turns it where one is two levels higher. Returns the first node's slot.
+fn rebalance(nodes: &mut [Node], left: u32, at: u32, right: u32) -> u32
     requires { AreReady nodes.old left at right }
     ensures { (l r : Tree) → AreSides nodes.old left at right l r
         → IsHung nodes.old nodes.new result (balanced_at at l r) (fork at l r) }
@@ -115,15 +115,15 @@ fn settle(nodes: &mut [Node], left: u32, at: u32, right: u32) -> u32
     at
 }
 
-/// Makes a place a node between two sides, the far one first, and settles it.
-fn settle_by(nodes: &mut [Node], left: bool, far: u32, at: u32, near: u32) -> u32
+/// Makes a slot a node between two sides, the far one first, and settles it.
+fn rebalance_by(nodes: &mut [Node], left: bool, far: u32, at: u32, near: u32) -> u32
     requires { AreReadyBy left nodes.old far at near }
     ensures { (t o : Tree) → AreSidesBy left nodes.old far at near t o
         → IsHung nodes.old nodes.new result (sided left (balanced_at at) t o) (sided left (fork at) t o) }
 {
     if left {
-        settle(nodes, far, at, near)
+        rebalance(nodes, far, at, near)
     } else {
-        settle(nodes, near, at, far)
+        rebalance(nodes, near, at, far)
     }
 }

@@ -1,4 +1,4 @@
-//! Taking a place out of the tree, by one descent with one look at the arena a level.
+//! Taking a slot out of the tree, by one descent with one look at the arena a level.
 ghost use Rattle.std.specs.Prelude.{◌≡◌, ◌+◌, ◌<◌, ◌≤◌, ℕ, length};
 ghost use Rattle.tree_shape.specs.Shape.{Tree, fork, IsHung, height_at};
 ghost use Rattle.tree_shape.specs.Changes.{joined_sides};
@@ -6,14 +6,14 @@ ghost use Rattle.tree_shape.specs.Searches.{order_to};
 ghost use Rattle.tree_shape.specs.Removals.{IsShrinking, IsTaking, AreMerging, IsPopped, IsRemoval, is_alone};
 
 use crate::search::order_at;
-use crate::{NONE, Node, settle};
+use crate::{NONE, Node, rebalance};
 use frame_arena::Counted;
 use std::cmp::Ordering;
 
-/// A tree without its first place.
+/// A tree without its first slot.
 #[derive(Clone, Copy, Debug, PartialEq, Eq)]
 struct Popped {
-    /// The place that was first.
+    /// The slot that was first.
     pub first: u32,
     /// The link of what is left.
     pub root: u32,
@@ -22,13 +22,13 @@ struct Popped {
 /// A tree without a content that was taken out.
 #[derive(Clone, Copy, Debug, PartialEq, Eq)]
 pub struct Taken {
-    /// The place that was taken out.
-    pub place: u32,
+    /// The slot that was taken out.
+    pub slot: u32,
     /// The link of what is left.
     pub root: u32,
 }
 
-/// Takes out the first place of a node's tree.
+/// Takes out the first slot of a node's tree.
 fn pop_least(nodes: &mut [Node], link: u32) -> Popped
     requires { (l : Tree) × ((r : Tree) × IsShrinking nodes.old link (fork link l r)) }
     ensures { (l r : Tree) → IsShrinking nodes.old link (fork link l r) → IsPopped nodes.old nodes.new link l r result }
@@ -41,14 +41,14 @@ fn pop_least(nodes: &mut [Node], link: u32) -> Popped
         };
     }
     let popped = pop_least(nodes, node.left);
-    let root = settle(nodes, popped.root, link, node.right);
+    let root = rebalance(nodes, popped.root, link, node.right);
     Popped {
         first: popped.first,
         root,
     }
 }
 
-/// Makes one tree of the two sides of a node that is taken out. Tells its link.
+/// Makes one tree of the two sides of a node that is taken out. Returns its link.
 fn merge(nodes: &mut [Node], left: u32, right: u32) -> u32
     requires { (l : Tree) × ((r : Tree) × AreMerging nodes.old left right l r) }
     ensures { (l r : Tree) → AreMerging nodes.old left right l r → IsHung nodes.old nodes.new result (joined_sides l r) (joined_sides l r) }
@@ -57,21 +57,21 @@ fn merge(nodes: &mut [Node], left: u32, right: u32) -> u32
         return left;
     }
     let popped = pop_least(nodes, right);
-    settle(nodes, left, popped.first, popped.root)
+    rebalance(nodes, left, popped.first, popped.root)
 }
 
 /// What came of taking out a frame.
 #[derive(Clone, Copy, Debug, PartialEq, Eq)]
 pub enum Removed {
-    /// No place has its content, and nothing changed.
+    /// No slot has its content, and nothing changed.
     Nowhere,
-    /// This place has its content and not this frame alone, and nothing changed.
+    /// This slot has its content and not this frame alone, and nothing changed.
     Stays(u32),
-    /// The place that had this frame alone is out.
+    /// The slot that had this frame alone is out.
     Out(Taken),
 }
 
-/// Whether a place has a frame, and no other.
+/// Whether a slot has a frame, and no other.
 fn is_alone(frames: &[u32], sizes: &[u32], at: u32, frame: u32) -> bool
     requires inside { at < length frames.now }
     requires sized { length sizes.now ≡ length frames.now }
@@ -80,8 +80,8 @@ fn is_alone(frames: &[u32], sizes: &[u32], at: u32, frame: u32) -> bool
     sizes[at as usize] == 1 && frames[at as usize] == frame
 }
 
-/// Takes the place of a frame's content out of what hangs at a link, if it has that frame alone. `sizes`
-/// tells how many frames each place has.
+/// Takes the slot of a frame's content out of what hangs at a link, if it has that frame alone. `sizes`
+/// says how many frames each slot has.
 pub fn take_out(
     nodes: &mut [Node],
     frames: &[u32],
@@ -107,8 +107,8 @@ pub fn take_out(
             Removed::Nowhere => Removed::Nowhere,
             Removed::Stays(at) => Removed::Stays(at),
             Removed::Out(taken) => Removed::Out(Taken {
-                place: taken.place,
-                root: settle(nodes, node.left, link, taken.root),
+                slot: taken.slot,
+                root: rebalance(nodes, node.left, link, taken.root),
             }),
         },
         Ordering::Equal => {
@@ -116,7 +116,7 @@ pub fn take_out(
                 return Removed::Stays(link);
             }
             Removed::Out(Taken {
-                place: link,
+                slot: link,
                 root: merge(nodes, node.left, node.right),
             })
         }
@@ -124,8 +124,8 @@ pub fn take_out(
             Removed::Nowhere => Removed::Nowhere,
             Removed::Stays(at) => Removed::Stays(at),
             Removed::Out(taken) => Removed::Out(Taken {
-                place: taken.place,
-                root: settle(nodes, taken.root, link, node.right),
+                slot: taken.slot,
+                root: rebalance(nodes, taken.root, link, node.right),
             }),
         },
     }

@@ -4,26 +4,26 @@ ghost use Rattle.tree_shape.specs.Shape.{Tree, height_at};
 ghost use Rattle.tree_shape.specs.Changes.{found};
 ghost use Rattle.tree_shape.specs.Searches.{order_to, IsSearched, IsGrowing, IsEnteredAt};
 
-use crate::{NONE, Node, join, settle_by};
+use crate::{NONE, Node, join, rebalance_by};
 use frame_arena::Counted;
 use std::cmp::Ordering;
 
 /// What came of putting in a content.
 #[derive(Clone, Copy, Debug, PartialEq, Eq)]
 pub enum Entered {
-    /// An equal content is at this place, and nothing changed.
+    /// An equal content is at this slot, and nothing changed.
     There(u32),
-    /// It was put in, and the tree's first node is now at this place.
+    /// It was put in, and the tree's first node is now at this slot.
     Root(u32),
 }
 
-/// How the content of a place stands to a frame's, by one look at most: a frame isn't compared with itself.
+/// How the content of a slot stands to a frame's, by one look at most: a frame isn't compared with itself.
 #[inline(always)]
 pub(crate) fn order_at(frames: &[u32], arena: &mut Counted, at: u32, frame: u32) -> Ordering
     requires inside { at < length frames.now }
     requires framed { slice_index_or frames.now at 0 < length arena.old.pages }
     requires frame { frame < length arena.old.pages }
-    ensures told { result ≡ order_to arena.old.pages frames.now frame at }
+    ensures answered { result ≡ order_to arena.old.pages frames.now frame at }
     ensures pages { arena.new.pages ≡ arena.old.pages }
     ensures steps { arena.new.steps ≤ arena.old.steps + 1 }
 {
@@ -34,7 +34,7 @@ pub(crate) fn order_at(frames: &[u32], arena: &mut Counted, at: u32, frame: u32)
     arena.order(other, frame)
 }
 
-/// The place of a frame's content in what hangs at a link.
+/// The slot of a frame's content in what hangs at a link.
 pub fn find(
     nodes: &[Node],
     frames: &[u32],
@@ -44,7 +44,7 @@ pub fn find(
 ) -> Option<u32>
     requires tree { (t : Tree) × IsSearched nodes.now frames.now arena.old.pages link t }
     requires frame { frame < length arena.old.pages }
-    ensures place { (t : Tree) → IsSearched nodes.now frames.now arena.old.pages link t
+    ensures slot { (t : Tree) → IsSearched nodes.now frames.now arena.old.pages link t
         → result ≡ found (order_to arena.old.pages frames.now frame) t }
     ensures pages { arena.new.pages ≡ arena.old.pages }
     ensures few { arena.new.steps ≤ arena.old.steps + height_at nodes.now link }
@@ -61,7 +61,7 @@ pub fn find(
     None
 }
 
-/// Puts a place into what hangs at a link, unless the content of its frame is there.
+/// Puts a slot into what hangs at a link, unless the content of its frame is there.
 pub fn enter(
     nodes: &mut [Node],
     frames: &[u32],
@@ -89,6 +89,12 @@ pub fn enter(
     let left = order.is_gt();
     match enter(nodes, frames, arena, node.far(left), new) {
         Entered::There(at) => Entered::There(at),
-        Entered::Root(root) => Entered::Root(settle_by(nodes, left, root, link, node.near(left))),
+        Entered::Root(root) => Entered::Root(rebalance_by(
+            nodes,
+            left,
+            root,
+            link,
+            node.near(left),
+        )),
     }
 }

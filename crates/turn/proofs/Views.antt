@@ -7,7 +7,7 @@ use Rattle.turn.specs.Views.{SeatView, Has}
 use Rattle.turn.specs.Rule.{Each, Apart}
 
 module _ {A : Type 0} where
-  -- what stands at a place is replaced
+  -- what stands at an index is replaced
   pub at_set_same : (l : List A) (i : ℕ) (a b : A) → get_elem? l i ≡ some a → get_elem? (set l i b) i ≡ some b
   at_set_same [] i a b e = absurd (some-ne-none a (sym e))
   at_set_same (x ∷ xs) zero a b e = refl

@@ -21,10 +21,10 @@ abbrev pub IsTaken : SeatState → SeatState → Held → Type 0
 IsTaken old new held =
     (new ≡ took old (memory_of held)) × IsBy held old × RemembersParts old.view (memory_of held) × HasMaps old.view (memory_of held)
 
--- the holder's memory with another in its place
+-- the holder's memory with another in its index
 abbrev pub with_memory : Held → MemoryState → Held
 with_memory held memory = record held { memory = record held.memory { value = memory } }
 
--- the holder ends with the last memory behind the reference
+-- the holder ends with the last memory after the reference
 abbrev pub LendsMemory : MutBor Held → MutBor MemoryState → Fml
 LendsMemory held lent = Lends the_row memory_row held lent (with_memory held.now)

@@ -1,4 +1,4 @@
--- The rule of the turn, which every step on its word keeps, and what each step tells. The word is 0
+-- The rule of the turn, which every step on its word keeps, and what each step gives. The word is 0
 -- while the memory is home, and 1 while it is out with the one seat that holds it.
 use Rattle.std.specs.Prelude.{◌≡◌, ◌≢◌, ◌⊎◌, ℕ, List, [], ◌∷◌, Option, Some, true, false}
 use mathlib.Core.Option.{some, none}
@@ -38,16 +38,16 @@ pub record IsInTurn (s : State (Option MemoryState) SeatView) : Type 0 where
   pub memory : MemoryState
   pub apart : Apart s.views
   pub agree : Each s.views (λ i view. RemembersParts view memory)
-  pub place : IsHome s memory ⊎ IsOut s memory
+  pub entry_index : IsHome s memory ⊎ IsOut s memory
 
--- what a take tells: where it found the memory home it wins, and its seat holds a memory that has
+-- what a take gives: where it found the memory home it wins, and its seat holds a memory that has
 -- its own parts; else it loses, and nothing changes
 abbrev pub Takes : Step (Option MemoryState) → Me (Option MemoryState) SeatView → ℕ → Me (Option MemoryState) SeatView → Type 0
 Takes step before found after =
     (found ≡ 0 → (memory : MemoryState) × (after ≡ (holding before.0 memory, (0, Some memory) ∷ before.1)) × RemembersParts before.0 memory)
     × (found ≢ 0 → after ≡ before)
 
--- what a give tells: its seat's parts are those of the memory that it put back
+-- what a give gives: its seat's parts are those of the memory that it put back
 abbrev pub Gives : Step (Option MemoryState) → Me (Option MemoryState) SeatView → ℕ → Me (Option MemoryState) SeatView → Type 0
 Gives step before stored after =
     (memory : MemoryState) → before.1 ≡ (0, Some memory) ∷ [] → after ≡ (resting before.0 memory, [])

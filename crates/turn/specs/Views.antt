@@ -24,7 +24,7 @@ RemembersParts view memory = (t : ℕ) → Has view t → part memory t ≡ part
 abbrev pub Spares : SeatView → MemoryState → Type 0
 Spares view memory = (t : ℕ) → ¬ (Has view t) → part memory t ≡ part view.seen t
 
--- the view's own tenants are there, with eight places for maps, and each map has as many bytes as its shape says
+-- the view's own tenants are there, with eight entries for maps, and each map has as many bytes as its shape says
 abbrev pub HasMaps : SeatView → MemoryState → Type 0
 HasMaps view memory = (t : ℕ) → Has view t → AreFlatMaps (part memory t).maps
 
@@ -32,7 +32,7 @@ HasMaps view memory = (t : ℕ) → Has view t → AreFlatMaps (part memory t).m
 abbrev pub KnowsMaps : SeatView → Type 0
 KnowsMaps view = HasMaps view view.seen
 
--- the view's own tenants are there: they have eight places for maps
+-- the view's own tenants are there: they have eight entries for maps
 abbrev pub AreThere : SeatView → MemoryState → Type 0
 AreThere view memory = (t : ℕ) → Has view t → length (part memory t).maps ≡ 8
 

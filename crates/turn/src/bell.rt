@@ -10,7 +10,7 @@ const QUIET: u64 = 0;
 /// Somebody sleeps, or is about to.
 const WANTED: u64 = 1;
 
-/// The bell's word may have any value after any step: it tells of sleepers, and no contract speaks of it.
+/// The bell's word may have any value after any step: it says of sleepers, and no contract speaks of it.
 struct Free;
 
 impl TableRule<(), (), ()> for Free {

@@ -11,6 +11,6 @@ mod turn;
 mod view;
 
 pub use held::Held;
-pub use seat::{HostSeat, Kind, OfHost, OfScanner, OfTenant, Place, ScanSeat, Seat};
+pub use seat::{HostSeat, Kind, OfHost, OfScanner, OfTenant, ScanSeat, Seat, SeatOf};
 pub use turn::Turn;
 pub use view::View;

@@ -33,22 +33,22 @@ impl Kind for OfHost {
 
 /// A seat at a turn. It knows its tenants' parts of the memory, and only its own turns change them.
 #[derive(Drop)]
-pub struct Place<K: Kind> {
+pub struct SeatOf<K: Kind> {
     pub(crate) token: atomic_table::Seat<Option<Boxed>, View>,
     pub(crate) tenant: u32,
     pub(crate) kind: PhantomData<K>,
 }
 
 /// The seat of a tenant.
-pub type Seat = Place<OfTenant>;
+pub type Seat = SeatOf<OfTenant>;
 
 /// The seat of the scanner.
-pub type ScanSeat = Place<OfScanner>;
+pub type ScanSeat = SeatOf<OfScanner>;
 
 /// The seat of the host.
-pub type HostSeat = Place<OfHost>;
+pub type HostSeat = SeatOf<OfHost>;
 
-impl<K: Kind> Model for Place<K> {
+impl<K: Kind> Model for SeatOf<K> {
     ghost use Rattle.std.specs.Prelude.{◌≡◌};
     ghost use Rattle.turn.specs.Views.{KnowsMaps};
     ghost use Rattle.turn.specs.Seats.{SeatState, slots_out};
@@ -60,7 +60,7 @@ impl<K: Kind> Model for Place<K> {
     ghost invariant = { λ p. (p.token.me.1 ≡ slots_out p.token.me.0.holds) × (p.token.me.0.first ≡ p.tenant) × K.spans p.token.me.0.first p.token.me.0.end × KnowsMaps p.token.me.0 };
 }
 
-impl Place<OfTenant> {
+impl SeatOf<OfTenant> {
     ghost use Rattle.std.specs.Prelude.{◌≡◌, ◌+◌};
     ghost use Rattle.host_types.specs.Tenant.{AreFlatMaps};
     ghost use Rattle.turn.specs.Seats.{own_part};

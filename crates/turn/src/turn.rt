@@ -10,7 +10,7 @@ use crate::bell::Bell;
 use crate::boxed::Boxed;
 use crate::held::Held;
 use crate::rule::{CutNone, CutTenant, Give, InTurn, Take};
-use crate::seat::{HostSeat, Kind, Place, ScanSeat, Seat};
+use crate::seat::{HostSeat, Kind, ScanSeat, Seat, SeatOf};
 use crate::view::View;
 use atomic_table::{Refused, Table};
 use host_types::Fault;
@@ -27,11 +27,9 @@ const HOME: u64 = 0;
 /// The word while the memory is out.
 const OUT: u64 = 1;
 
-/// How often a loser looks at the word between two tries.
-const LOOKS: u32 = 100;
-
-/// How often a loser tries again before it sleeps: for some microseconds, in which most turns end.
-const TRIES: u32 = 8;
+/// How many pauses a loser makes before each further try, before it sleeps; eight tries take some 100 microseconds. While a loser
+/// pauses it doesn't look at the word, so that the word's cache line stays with the thread that takes turns one after the other.
+const PAUSES: [u32; 8] = [64, 128, 256, 512, 512, 512, 512, 512];
 
 type Token = atomic_table::Seat<Option<Boxed>, View>;
 
@@ -98,7 +96,7 @@ impl Turn {
             seats.push(turn.cut_tenant(&mut rest, tenant))?;
         }
         let scanner = turn.cut_scanner(&mut rest, tenants);
-        let host = Place {
+        let host = SeatOf {
             token: rest,
             tenant: tenants,
             kind: PhantomData,
@@ -137,7 +135,7 @@ impl Turn {
         ensures rest { rest.new.me ≡ (new_view (tenant + 1) rest.old.me.0.end rest.old.me.0.seen, rest.old.me.1) }
         ensures seat { IsNewSeat self.now tenant (tenant + 1) rest.old.me.0.seen result }
     {
-        Place {
+        SeatOf {
             token: self.table.shared.split_seat::<CutTenant>(rest),
             tenant,
             kind: PhantomData,
@@ -154,7 +152,7 @@ impl Turn {
         ensures rest { rest.new.me ≡ rest.old.me }
         ensures seat { IsNewSeat self.now tenants tenants rest.old.me.0.seen result }
     {
-        Place {
+        SeatOf {
             token: self.table.shared.split_seat::<CutNone>(rest),
             tenant: tenants,
             kind: PhantomData,
@@ -163,7 +161,7 @@ impl Turn {
 
     /// Takes the memory, and sleeps until it is home. Whoever slept asks for a ring before it gives, since others
     /// may sleep.
-    pub fn take<K: Kind>(&self, rt: &impl Wait, seat: &mut Place<K>) -> Held
+    pub fn take<K: Kind>(&self, rt: &impl Wait, seat: &mut SeatOf<K>) -> Held
         requires turn { seat.old.turn ≡ self.now }
         requires free { seat.old.view.holds ≡ false }
         ensures seat { seat.new ≡ took seat.old (memory_of result) }
@@ -191,33 +189,36 @@ impl Turn {
         unreachable!()
     }
 
-    /// Tries a few times, and looks at the word between tries.
-    fn take_soon<K: Kind>(&self, seat: &mut Place<K>) -> Option<Held>
+    /// Tries a few times, with longer and longer pauses between tries.
+    fn take_soon<K: Kind>(&self, seat: &mut SeatOf<K>) -> Option<Held>
         requires turn { seat.old.turn ≡ self.now }
         requires free { seat.old.view.holds ≡ false }
         ensures { MatchOption result (seat.new ≡ seat.old) (IsTaken seat.old seat.new) }
     {
-        for _try in 0..TRIES {
-            self.look();
-            if let Some(held) = self.try_take(seat) {
+        for pauses in PAUSES {
+            pause(pauses);
+            if let Some(held) = self.try_if_home(seat) {
                 return Some(held);
             }
         }
         None
     }
 
-    /// Looks at the word until the memory is home, but not for long.
-    fn look(&self) {
-        for _look in 0..LOOKS {
-            if self.table.shared.peek(0) == HOME {
-                return;
-            }
-            spin_loop();
+    /// Tries to take the memory where a look at the word finds it home: a look costs the others less than a try.
+    fn try_if_home<K: Kind>(&self, seat: &mut SeatOf<K>) -> Option<Held>
+        requires turn { seat.old.turn ≡ self.now }
+        requires free { seat.old.view.holds ≡ false }
+        ensures { MatchOption result (seat.new ≡ seat.old) (IsTaken seat.old seat.new) }
+    {
+        if self.table.shared.peek(0) == HOME {
+            self.try_take(seat)
+        } else {
+            None
         }
     }
 
     /// Tries once to take the memory, and waits for nobody. `None` comes only after a lost try.
-    pub fn try_take<K: Kind>(&self, seat: &mut Place<K>) -> Option<Held>
+    pub fn try_take<K: Kind>(&self, seat: &mut SeatOf<K>) -> Option<Held>
         requires turn { seat.old.turn ≡ self.now }
         requires free { seat.old.view.holds ≡ false }
         ensures none { IfNone result (seat.new ≡ seat.old) }
@@ -251,7 +252,7 @@ impl Turn {
     }
 
     /// Gives the memory back, and waits for nobody.
-    pub fn give<K: Kind>(&self, seat: &mut Place<K>, held: Held)
+    pub fn give<K: Kind>(&self, seat: &mut SeatOf<K>, held: Held)
         requires turn { seat.old.turn ≡ self.now }
         requires holds { seat.old.view.holds ≡ true }
         requires by { IsBy held seat.old }
@@ -285,7 +286,7 @@ impl Turn {
         ensures { IfSome result (λ memory. RemembersParts seat.view memory) }
     {
         let Turn { table, bell: _ } = self;
-        let Place {
+        let SeatOf {
             token,
             tenant: _,
             kind: _,
@@ -299,5 +300,12 @@ impl Turn {
         }
         let Boxed { memory } = home?;
         Some(Box::into_inner(memory))
+    }
+}
+
+/// Makes so many pauses.
+fn pause(pauses: u32) {
+    for _pause in 0..pauses {
+        spin_loop();
     }
 }

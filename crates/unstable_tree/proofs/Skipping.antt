@@ -13,9 +13,9 @@ skipped fingerprint test (suc n) (w ∷ rest) others =
     let other : (w.fingerprint == fingerprint) ≡ false = let apart = others 0 (omega arith) (omega arith) in grind (arith, nat_tests) in
     rw other (skipped fingerprint test n rest (λ i low high. others (suc i) (omega arith) (omega (arith, high))))
 
--- the page of the place isn't there, so each one stays
-pub all_kept : (place : ℕ) (waiters : List Waiter) → AreElsewhere place waiters 0 (length waiters) → filter (λ w. not (w.place == place)) waiters ≡ waiters
-all_kept place [] others = refl
-all_kept place (w ∷ rest) others =
-    let other : (w.place == place) ≡ false = let apart = others 0 (omega arith) (omega arith) in grind (arith, nat_tests) in
-    rw other (ap (λ (more : List Waiter). w ∷ more) (all_kept place rest (λ i low high. others (suc i) (omega arith) (omega (arith, high)))))
+-- the page of the index isn't there, so each one stays
+pub all_kept : (page_index : ℕ) (waiters : List Waiter) → AreElsewhere page_index waiters 0 (length waiters) → filter (λ w. not (w.page_index == page_index)) waiters ≡ waiters
+all_kept page_index [] others = refl
+all_kept page_index (w ∷ rest) others =
+    let other : (w.page_index == page_index) ≡ false = let apart = others 0 (omega arith) (omega arith) in grind (arith, nat_tests) in
+    rw other (ap (λ (more : List Waiter). w ∷ more) (all_kept page_index rest (λ i low high. others (suc i) (omega arith) (omega (arith, high)))))

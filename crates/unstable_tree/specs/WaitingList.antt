@@ -15,12 +15,12 @@ abbrev pub is_match : List (List ℕ) → ℕ → List ℕ → Waiter → Bool
 is_match arena fingerprint bytes waiter = waiter.fingerprint == fingerprint && bytes_eq (page_at arena waiter.frame) bytes
 
 abbrev pub no_waiter : Waiter
-no_waiter = record { place = 0; frame = 0; fingerprint = 0 }
+no_waiter = record { page_index = 0; frame = 0; fingerprint = 0 }
 
--- no page from a place on and before another has the recorded fingerprint
+-- no page from an index on and before another has the recorded fingerprint
 abbrev pub AreOthers : ℕ → List Waiter → ℕ → ℕ → Type 0
 AreOthers fingerprint waiters first end = (i : ℕ) → first ≤ i → i < end → (slice_index_or waiters i no_waiter).fingerprint ≢ fingerprint
 
--- the page of a place isn't one of those from a place on and before another
+-- the page of an index isn't one of those from an index on and before another
 abbrev pub AreElsewhere : ℕ → List Waiter → ℕ → ℕ → Type 0
-AreElsewhere place waiters first end = (i : ℕ) → first ≤ i → i < end → (slice_index_or waiters i no_waiter).place ≢ place
+AreElsewhere page_index waiters first end = (i : ℕ) → first ≤ i → i < end → (slice_index_or waiters i no_waiter).page_index ≢ page_index

@@ -6,11 +6,11 @@ use frame_arena::FrameArena;
 use std::alloc::{AllocError, Global};
 use std::marker::Model;
 
-/// A page that waits: its place among all pages, the frame that it lies on, and the fingerprint that
+/// A page that waits: its index among all pages, the frame that it lies on, and the fingerprint that
 /// it had when it was inserted.
 #[derive(Clone, Copy, Debug, PartialEq, Eq)]
 pub struct Waiter {
-    pub place: usize,
+    pub page_index: usize,
     pub frame: u32,
     pub fingerprint: u64,
 }
@@ -29,7 +29,7 @@ impl Waiter {
 /// How many pages are looked at for one branch back, since a list is long where no page waits for another.
 const STEP: usize = 4;
 
-/// A place before which no page has a fingerprint: one of the four there has it, or fewer are left.
+/// An index before which no page has a fingerprint: one of the four there has it, or fewer are left.
 fn without(waiters: &[Waiter], fingerprint: u64) -> usize
     ensures within { result ≤ length waiters.now }
     ensures others { AreOthers fingerprint waiters.now 0 result }
@@ -41,7 +41,7 @@ fn without(waiters: &[Waiter], fingerprint: u64) -> usize
     at
 }
 
-/// Whether one of the four pages from a place on has a fingerprint.
+/// Whether one of the four pages from an index on has a fingerprint.
 #[inline(always)]
 fn is_in_step(waiters: &[Waiter], at: usize, fingerprint: u64) -> bool
     requires { at + 4 ≤ length waiters.now }
@@ -53,36 +53,36 @@ fn is_in_step(waiters: &[Waiter], at: usize, fingerprint: u64) -> bool
         || waiters[at + 3].fingerprint == fingerprint
 }
 
-/// A place before which no page is the one of another place: one of the four there is it, or fewer are left.
-fn elsewhere(waiters: &[Waiter], place: usize) -> usize
+/// An index before which no page is the one of another index: one of the four there is it, or fewer are left.
+fn elsewhere(waiters: &[Waiter], page_index: usize) -> usize
     ensures within { result ≤ length waiters.now }
-    ensures others { AreElsewhere place waiters.now 0 result }
+    ensures others { AreElsewhere page_index waiters.now 0 result }
 {
     let mut at = 0;
-    while waiters.len() - at >= STEP && !is_one_in_step(waiters, at, place) {
+    while waiters.len() - at >= STEP && !is_one_in_step(waiters, at, page_index) {
         at += STEP;
     }
     at
 }
 
-/// Whether one of the four pages from a place on is the one of another place.
+/// Whether one of the four pages from an index on is the one of another index.
 #[inline(always)]
-fn is_one_in_step(waiters: &[Waiter], at: usize, place: usize) -> bool
+fn is_one_in_step(waiters: &[Waiter], at: usize, page_index: usize) -> bool
     requires { at + 4 ≤ length waiters.now }
-    ensures { result ≡ false → AreElsewhere place waiters.now at (at + 4) }
+    ensures { result ≡ false → AreElsewhere page_index waiters.now at (at + 4) }
 {
-    waiters[at].place == place
-        || waiters[at + 1].place == place
-        || waiters[at + 2].place == place
-        || waiters[at + 3].place == place
+    waiters[at].page_index == page_index
+        || waiters[at + 1].page_index == page_index
+        || waiters[at + 2].page_index == page_index
+        || waiters[at + 3].page_index == page_index
 }
 
-/// Whether the page at a place waits.
-fn waits(waiters: &[Waiter], place: usize) -> bool
-    ensures { result ≡ false → AreElsewhere place waiters.now 0 (length waiters.now) }
+/// Whether the page at an index waits.
+fn waits(waiters: &[Waiter], page_index: usize) -> bool
+    ensures { result ≡ false → AreElsewhere page_index waiters.now 0 (length waiters.now) }
 {
-    let mut at = elsewhere(waiters, place);
-    while at < waiters.len() && waiters[at].place != place {
+    let mut at = elsewhere(waiters, page_index);
+    while at < waiters.len() && waiters[at].page_index != page_index {
         at += 1;
     }
     at < waiters.len()
@@ -166,7 +166,7 @@ impl UnstableTree {
         first_match(&waiters[first..], arena, fingerprint, frame)
     }
 
-    /// Puts a page behind all others. It takes no memory.
+    /// Puts a page after all others. It takes no memory.
     pub fn insert(&mut self, waiter: Waiter)
         requires room { length self.old.listed < self.old.room }
         ensures { self.new ≡ record self.old { listed = self.old.listed ++ waiter ∷ [] } }
@@ -175,26 +175,26 @@ impl UnstableTree {
         prove!(pushed);
     }
 
-    /// Takes out the page at a place, if it waits.
-    pub fn forget(&mut self, place: usize)
+    /// Takes out the page at an index, if it waits.
+    pub fn forget(&mut self, page_index: usize)
         ensures { self.new ≡ record self.old {
-          listed = filter (λ w. not (w.place == place)) self.old.listed;
+          listed = filter (λ w. not (w.page_index == page_index)) self.old.listed;
         } }
     {
-        if waits(&self.waiters, place) {
-            self.waiters.retain(|waiter| waiter.place != place);
+        if waits(&self.waiters, page_index) {
+            self.waiters
+                .retain(|waiter| waiter.page_index != page_index);
         }
     }
 
-    /// Takes out the pages that wait at the places from `first` on and before `end`, in one walk of
+    /// Takes out the pages that wait at the indices from `first` on and before `end`, in one walk of
     /// the list.
     pub fn forget_all(&mut self, first: usize, end: usize)
         ensures { self.new ≡ record self.old {
-          listed = filter (λ w. not (nat_le first w.place && nat_lt w.place end)) self.old.listed;
+          listed = filter (λ w. not (nat_le first w.page_index && nat_lt w.page_index end)) self.old.listed;
         } }
     {
-        self.waiters
-            .retain(|waiter| !(first <= waiter.place && waiter.place < end));
+        self.waiters.retain(|waiter| !(first <= waiter.page_index && waiter.page_index < end));
     }
 
     /// Takes out all pages.

@@ -14,7 +14,7 @@ use Rattle.host_types.specs.Bytes.{number_of, part_of}
 use Rattle.host_types.specs.Helpers.{helper_of}
 use Rattle.host_types.specs.Layout.{stack_size}
 use Rattle.host_types.specs.Rules.{unknown_opcode, unset_register, unset_stack, unknown_helper, unknown_map, misaligned, outside_stack, outside_map}
-use Rattle.host_types.proofs.Bytes.{number_of-small}
+use Rattle.host_types.proofs.LittleEndian.{number_of-small}
 use Rattle.bpf_decode.specs.declared.insn.Insn.{Insn}
 use Rattle.bpf_decode.specs.declared.operation.Source.{Source}
 use Rattle.bpf_decode.specs.declared.operation.Source.TheVariants.{Immediate, Register}
@@ -44,26 +44,26 @@ use Rattle.verifier_kinds.specs.Descriptions.{IsDescription, IsSlot, register_of
 use Rattle.verifier_kinds.specs.Arithmetic.{arith_by}
 use Rattle.verifier_kinds.specs.Refinement.{refined}
 use Rattle.verifier_kinds.proofs.Ranges.{constant_is_normal, normal_is_normal, full_is_normal}
-use Rattle.verifier_kinds.proofs.Descriptions.{with_kind_is_description, with_slot_is_description, with_unset_is_description, settled_is_description}
-use Rattle.verifier_kinds.proofs.Joins.{places_fit}
+use Rattle.verifier_kinds.proofs.Descriptions.{with_kind_is_description, with_slot_is_description, with_unset_is_description, resolved_is_description}
+use Rattle.verifier_kinds.proofs.Joins.{mask_fit}
 use Rattle.verifier_kinds.proofs.Refinement.{refined_is_normal}
 use Rattle.verifier_kinds.proofs.Keeping.{arithmetic_is_kind}
 use Rattle.verifier.specs.declared.jumps.Compared.{Compared}
 use Rattle.verifier.specs.declared.jumps.Compared.TheVariants.{Numbers, Answer}
 use Rattle.verifier.specs.Subject.{Subject}
-use Rattle.verifier.specs.Flow.{◌>>=◌, both, known_or, holds_or, read_kind, writable, write_kind, operand_kind, dst_is_known, computed_kind, after_alu, lies_below, aligned, context_place, stack_place, loaded_range, places, slot_kind, value_size_of, value_access, load_kind, loaded_kind, after_load, name_kind, at_offset, first_value_kind, wide_kind, after_load_immediate, written_slot, is_number, after_stack_store, stored, after_store, falls_to, jumps_to, target, is_null_check, compared_kinds, comparands, holds_of_null, checked_kind, on_way, flow_of_branch, called_map, answer_kind, without_arguments, after_call, falls_on, flow_by, flow}
+use Rattle.verifier.specs.Flow.{◌>>=◌, both, known_or, holds_or, read_kind, writable, write_kind, operand_kind, dst_is_known, computed_kind, after_alu, lies_below, aligned, context_offset, stack_offset, loaded_range, mask, slot_kind, value_size_of, value_access, load_kind, loaded_kind, after_load, name_kind, at_offset, first_value_kind, wide_kind, after_load_immediate, written_slot, is_number, after_stack_store, stored, after_store, falls_to, jumps_to, target, is_null_check, compared_kinds, comparands, holds_of_null, checked_kind, on_successor, flow_of_branch, called_map, answer_kind, without_arguments, after_call, falls_on, flow_by, flow}
 use Rattle.verifier.specs.Table.{Table, described, flows_by, flows_from, targets_of, IsRefusal}
 use Rattle.verifier.specs.Wide.{HasNoLawful}
 use Rattle.verifier.specs.Pass.{AreDescribed, FlowDescribed}
 use Rattle.verifier.specs.Verified.{HasShapes, IsSubject}
-use Rattle.verifier.specs.Way.{AreNormal}
+use Rattle.verifier.specs.Successor.{AreNormal}
 use Rattle.verifier.proofs.Tables.{below_next, IsTightBefore, IsDescription-incoming}
 use Rattle.verifier.proofs.Shapes.{value_size_small}
 use Rattle.verifier.proofs.Complete.{broken_leaves_none}
 
 -- ---- questions
 
--- an answer to a question behind another
+-- an answer to a question after another
 then_keeps : {A B : Type 0} (P : A → Type 0) (Q : B → Type 0) (r : Result A ℕ) (f : A → Result B ℕ) → IfOk r P → ((x : A) → P x → IfOk (f x) Q) → IfOk (r >>= f) Q
 then_keeps P Q (Ok x) f p q = q x p
 then_keeps P Q (Err n) f p q = tt
@@ -131,10 +131,10 @@ slot_keeps size extension (Bytes set) at h = cond_both _ (Ok (Scalar (loaded_ran
 
 load_keeps : (p : Subject) (size : Size) (extension : Extension) (insn : Insn) (d : Description) (base : Kind) → IsDescription d → IfOk (load_kind p size extension insn d base) IsKind
 load_keeps p size extension insn d (Context k) h =
-    then_keeps IsAny IsKind (context_place p.context_size (k +ℤ insn.offset) (byte_count size)) (λ at. Ok (Scalar (loaded_range size extension))) (any_answer (context_place p.context_size (k +ℤ insn.offset) (byte_count size)))
+    then_keeps IsAny IsKind (context_offset p.context_size (k +ℤ insn.offset) (byte_count size)) (λ at. Ok (Scalar (loaded_range size extension))) (any_answer (context_offset p.context_size (k +ℤ insn.offset) (byte_count size)))
     (λ at q. loaded_is_normal size extension)
 load_keeps p size extension insn d (Stack k) h =
-    then_keeps IsAny IsKind (stack_place (k +ℤ insn.offset) (byte_count size)) (λ at. slot_kind size extension (slot_of d (at / 8)) at) (any_answer (stack_place (k +ℤ insn.offset) (byte_count size)))
+    then_keeps IsAny IsKind (stack_offset (k +ℤ insn.offset) (byte_count size)) (λ at. slot_kind size extension (slot_of d (at / 8)) at) (any_answer (stack_offset (k +ℤ insn.offset) (byte_count size)))
     (λ at q. slot_keeps size extension (slot_of d (at / 8)) at (h.slots (at / 8)))
 load_keeps p size extension insn d (MapValue m offsets) h =
     then_keeps IsAny IsKind (value_access (value_size_of p m) offsets insn.offset (byte_count size)) (λ within. Ok (Scalar (loaded_range size extension))) (any_answer (value_access (value_size_of p m) offsets insn.offset (byte_count size)))
@@ -186,14 +186,14 @@ after_load_immediate_keeps p insn d shapes small h = write_keeps d insn.dst (wid
 
 -- ---- stores
 
--- a place of an access is aligned to its size
-abbrev IsPlace : ℕ → ℕ → Type 0
-IsPlace size at = at % size ≡ 0
+-- a location of an access is aligned to its size
+abbrev IsOffset : ℕ → ℕ → Type 0
+IsOffset size at = at % size ≡ 0
 
-place_keeps : (offset : ℤ) (size : ℕ) → IfOk (stack_place offset size) (IsPlace size)
-place_keeps offset size =
-    then_keeps IsAny (IsPlace size) (lies_below (offset +ℤ pos stack_size) size stack_size outside_stack) (λ at. aligned at size) (any_answer (lies_below (offset +ℤ pos stack_size) size stack_size outside_stack))
-    (λ at q. cond_both (at % size == 0) (Ok at) (Err misaligned) (λ r. IfOk r (IsPlace size)) (λ t. eqb-true (at % size) 0 t) (λ _. tt))
+begin_keeps : (offset : ℤ) (size : ℕ) → IfOk (stack_offset offset size) (IsOffset size)
+begin_keeps offset size =
+    then_keeps IsAny (IsOffset size) (lies_below (offset +ℤ pos stack_size) size stack_size outside_stack) (λ at. aligned at size) (any_answer (lies_below (offset +ℤ pos stack_size) size stack_size outside_stack))
+    (λ at q. cond_both (at % size == 0) (Ok at) (Err misaligned) (λ r. IfOk r (IsOffset size)) (λ t. eqb-true (at % size) 0 t) (λ _. tt))
 
 -- the bytes of an access are among the eight of a slot
 shifted_fits : (ones most r : ℕ) → r ≤ most → ones * 2 ^ most < 256 → ones * 2 ^ r < 256
@@ -202,24 +202,24 @@ shifted_fits ones most r h fits =
     let product : ones * 2 ^ r ≤ ones * 2 ^ most = mul-le ones (2 ^ r) ones (2 ^ most) (omega arith) order in
     omega arith
 
-places_are_bytes : (size : Size) (at : ℕ) → IsPlace (byte_count size) at → places at size < 256
-places_are_bytes Byte at e = shifted_fits 1 7 (at % 8) (omega arith) (omega arith)
-places_are_bytes HalfWord at e = shifted_fits 3 6 (at % 8) (omega arith) (omega arith)
-places_are_bytes Word at e = shifted_fits 15 4 (at % 8) (omega arith) (omega arith)
-places_are_bytes DoubleWord at e = shifted_fits 255 0 (at % 8) (omega arith) (omega arith)
+mask_are_bytes : (size : Size) (at : ℕ) → IsOffset (byte_count size) at → mask at size < 256
+mask_are_bytes Byte at e = shifted_fits 1 7 (at % 8) (omega arith) (omega arith)
+mask_are_bytes HalfWord at e = shifted_fits 3 6 (at % 8) (omega arith) (omega arith)
+mask_are_bytes Word at e = shifted_fits 15 4 (at % 8) (omega arith) (omega arith)
+mask_are_bytes DoubleWord at e = shifted_fits 255 0 (at % 8) (omega arith) (omega arith)
 
-written_keeps : (size : Size) (slot : StackSlot) (at : ℕ) (kind : Kind) → IsPlace (byte_count size) at → IsSlot slot → IsKind kind → IfOk (written_slot size slot at kind) IsSlot
+written_keeps : (size : Size) (slot : StackSlot) (at : ℕ) (kind : Kind) → IsOffset (byte_count size) at → IsSlot slot → IsKind kind → IfOk (written_slot size slot at kind) IsSlot
 written_keeps DoubleWord slot at kind e p q = q
-written_keeps Byte slot at (Scalar range) e p q = or_lt 8 (number_bytes slot) (places at Byte) (places_fit slot p) (places_are_bytes Byte at e)
-written_keeps HalfWord slot at (Scalar range) e p q = or_lt 8 (number_bytes slot) (places at HalfWord) (places_fit slot p) (places_are_bytes HalfWord at e)
-written_keeps Word slot at (Scalar range) e p q = or_lt 8 (number_bytes slot) (places at Word) (places_fit slot p) (places_are_bytes Word at e)
+written_keeps Byte slot at (Scalar range) e p q = or_lt 8 (number_bytes slot) (mask at Byte) (mask_fit slot p) (mask_are_bytes Byte at e)
+written_keeps HalfWord slot at (Scalar range) e p q = or_lt 8 (number_bytes slot) (mask at HalfWord) (mask_fit slot p) (mask_are_bytes HalfWord at e)
+written_keeps Word slot at (Scalar range) e p q = or_lt 8 (number_bytes slot) (mask at Word) (mask_fit slot p) (mask_are_bytes Word at e)
 written_keeps Byte slot at pointer e p q = tt
 written_keeps HalfWord slot at pointer e p q = tt
 written_keeps Word slot at pointer e p q = tt
 
 stack_store_keeps : (size : Size) (offset : ℤ) (kind : Kind) (d : Description) → IsKind kind → IsDescription d → IfOk (after_stack_store size offset kind d) IsDescription
 stack_store_keeps size offset kind d q h =
-    then_keeps (IsPlace (byte_count size)) IsDescription (stack_place offset (byte_count size)) (λ at. written_slot size (slot_of d (at / 8)) at kind >>= λ slot. Ok (with_slot d (at / 8) slot)) (place_keeps offset (byte_count size))
+    then_keeps (IsOffset (byte_count size)) IsDescription (stack_offset offset (byte_count size)) (λ at. written_slot size (slot_of d (at / 8)) at kind >>= λ slot. Ok (with_slot d (at / 8) slot)) (begin_keeps offset (byte_count size))
     (λ at e.
     then_keeps IsSlot IsDescription (written_slot size (slot_of d (at / 8)) at kind) (λ slot. Ok (with_slot d (at / 8) slot)) (written_keeps size (slot_of d (at / 8)) at kind e (h.slots (at / 8)) q)
     (λ slot s. with_slot_is_description d (at / 8) slot s h))
@@ -291,29 +291,29 @@ comparands_keep comparison width source insn d h =
     (both_keep IsKind IsKind (read_kind d insn.dst) (operand_kind width source insn d) (read_keeps d insn.dst h) (operand_keeps width source insn d h))
     (λ x q. compared_keep (is_null_check comparison width source insn) x.0 x.1 q.0 q.1)
 
-told_keeps : (d : Description) (dst : ℕ) (range : Option Range) → IfSome range IsNormal → IsDescription d → IfSome (option_map (λ range. with_kind d dst (Scalar range)) range) IsDescription
-told_keeps d dst None p h = tt
-told_keeps d dst (Some range) p h = with_kind_is_description d dst (Scalar range) p h
+learned_keeps : (d : Description) (dst : ℕ) (range : Option Range) → IfSome range IsNormal → IsDescription d → IfSome (option_map (λ range. with_kind d dst (Scalar range)) range) IsDescription
+learned_keeps d dst None p h = tt
+learned_keeps d dst (Some range) p h = with_kind_is_description d dst (Scalar range) p h
 
 checked_is_kind : (m : ℕ) (null : Bool) → IsKind (checked_kind m null)
 checked_is_kind m true = constant_is_normal 0 (omega arith)
 checked_is_kind m false = record { normal = constant_is_normal 65536 (omega arith); below = omega arith }
 
-way_keeps : (comparison : Comparison) (width : Width) (taken : Bool) (insn : Insn) (d : Description) (compared : Compared) → AreNormal compared → IsDescription d → IfSome (on_way comparison width taken insn d compared) IsDescription
-way_keeps comparison width taken insn d (Numbers a b) (p, q) h = told_keeps d insn.dst (refined comparison width taken a b) (refined_is_normal comparison width taken a b p q) h
-way_keeps comparison width true insn d (Answer m call) p h = settled_is_description call _ d (checked_is_kind m (holds_of_null comparison)) h
-way_keeps comparison width false insn d (Answer m call) p h = settled_is_description call _ d (checked_is_kind m (not (holds_of_null comparison))) h
+successor_keeps : (comparison : Comparison) (width : Width) (taken : Bool) (insn : Insn) (d : Description) (compared : Compared) → AreNormal compared → IsDescription d → IfSome (on_successor comparison width taken insn d compared) IsDescription
+successor_keeps comparison width taken insn d (Numbers a b) (p, q) h = learned_keeps d insn.dst (refined comparison width taken a b) (refined_is_normal comparison width taken a b p q) h
+successor_keeps comparison width true insn d (Answer m call) p h = resolved_is_description call _ d (checked_is_kind m (holds_of_null comparison)) h
+successor_keeps comparison width false insn d (Answer m call) p h = resolved_is_description call _ d (checked_is_kind m (not (holds_of_null comparison))) h
 
 branch_keeps : (p : Subject) (comparison : Comparison) (width : Width) (source : Source) (insn : Insn) (slot : ℕ) (d : Description) → IsDescription d → IfOk (flow_of_branch p comparison width source insn slot d) AreDescribed
 branch_keeps p comparison width source insn slot d h =
     let targets : Result (ℕ × ℕ) ℕ = both (falls_to p.text slot) (jumps_to p.text slot insn.offset) in
-    let way : Bool → Compared → Option Description = λ taken compared. on_way comparison width taken insn d compared in
-    then_keeps (Both AreNormal IsAny) AreDescribed (both (comparands comparison width source insn d) targets) (λ x. Ok (target x.1.0 (way false x.0) ++ target x.1.1 (way true x.0)))
+    let successor : Bool → Compared → Option Description = λ taken compared. on_successor comparison width taken insn d compared in
+    then_keeps (Both AreNormal IsAny) AreDescribed (both (comparands comparison width source insn d) targets) (λ x. Ok (target x.1.0 (successor false x.0) ++ target x.1.1 (successor true x.0)))
     (both_keep AreNormal IsAny (comparands comparison width source insn d) targets (comparands_keep comparison width source insn d h) (any_answer targets))
     (λ x q.
-    All-append (λ t. IsDescription t.1) (target x.1.0 (way false x.0)) (target x.1.1 (way true x.0))
-    (target_keeps x.1.0 (way false x.0) (way_keeps comparison width false insn d x.0 q.0 h))
-    (target_keeps x.1.1 (way true x.0) (way_keeps comparison width true insn d x.0 q.0 h)))
+    All-append (λ t. IsDescription t.1) (target x.1.0 (successor false x.0)) (target x.1.1 (successor true x.0))
+    (target_keeps x.1.0 (successor false x.0) (successor_keeps comparison width false insn d x.0 q.0 h))
+    (target_keeps x.1.1 (successor true x.0) (successor_keeps comparison width true insn d x.0 q.0 h)))
 
 -- ---- instructions
 

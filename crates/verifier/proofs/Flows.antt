@@ -15,7 +15,7 @@ use Rattle.bpf_decode.specs.Text.{insn_at, opcode_at, slots_of, width_at, is_ins
 use Rattle.verifier_kinds.specs.declared.description.Description.{Description}
 use Rattle.verifier.specs.declared.jumps.Compared.{Compared}
 use Rattle.verifier.specs.Subject.{Subject}
-use Rattle.verifier.specs.Flow.{◌>>=◌, both, known_or, read_kind, is_number, falls_to, lands_on, jumps_to, target, comparands, on_way, flow_of_branch, flow_of_jump, falls_on, after, flow_by, flow}
+use Rattle.verifier.specs.Flow.{◌>>=◌, both, known_or, read_kind, is_number, falls_to, lands_on, jumps_to, target, comparands, on_successor, flow_of_branch, flow_of_jump, falls_on, after, flow_by, flow}
 
 -- two questions that break no rule have both an answer
 pub both_ok : {A B : Type 0} (a : Result A ℕ) (b : Result B ℕ) (x : A × B) → both a b ≡ Ok x → (a ≡ Ok x.0) × (b ≡ Ok x.1)
@@ -24,7 +24,7 @@ both_ok (Ok y) (Err n) x e = absurd cc
 both_ok (Err m) (Ok z) x e = absurd cc
 both_ok (Err m) (Err n) x e = absurd cc
 
--- a question that is asked behind another breaks no rule only if the other doesn't
+-- a question that is asked after another breaks no rule only if the other doesn't
 pub then_ok : {A B : Type 0} (a : Result A ℕ) (f : A → Result B ℕ) (y : B) → (a >>= f) ≡ Ok y → (x : A) × (a ≡ Ok x) × (f x ≡ Ok y)
 then_ok (Ok x) f y e = (x, refl, e)
 then_ok (Err n) f y e = absurd cc
@@ -69,14 +69,14 @@ below_from_test a b e = grind (arith, nat_tests)
 above_from_test : (a b : ℕ) → nat_le a b ≡ false → b < a
 above_from_test a b e = grind (arith, nat_tests)
 
--- an instruction that falls through leads behind itself
+-- an instruction that falls through leads after itself
 falls_within : (text : List ℕ) (slot to : ℕ) → falls_to text slot ≡ Ok to → (to ≡ slot + width_at text slot) × (to < slots_of text)
 falls_within text slot to e =
     let chosen = chosen_ok (nat_lt (slot + width_at text slot) (slots_of text)) (slot + width_at text slot) to falls_off e in
     let below = below_from_test (slot + width_at text slot) (slots_of text) chosen.0 in
     (chosen.1, omega (arith, below, chosen.1))
 
--- behind an instruction the next one begins
+-- after an instruction the next one begins
 next_begins : (text : List ℕ) (slot : ℕ) → is_instruction text slot ≡ true → is_instruction text (slot + width_at text slot) ≡ true
 unfolding is_instruction
 next_begins text slot begins = elim (eqb_tells (opcode_at text slot) wide_opcode) [
@@ -102,7 +102,7 @@ falls_ahead p slot to begins e d =
       instruction = record { within = falls.1; begins = subst P (sym falls.0) (next_begins p.text slot begins) };
     }
 
--- a jump that lands leads to an instruction behind itself
+-- a jump that lands leads to an instruction after itself
 lands_ahead : (p : Subject) (slot to : ℕ) (at : ℤ) → lands_on p.text slot at ≡ Ok to → LeadsTo p slot to
 lands_ahead p slot to (negsuc n) e d = absurd cc
 lands_ahead p slot to (pos at) e d =
@@ -142,17 +142,17 @@ branch_ahead p comparison width source insn slot d targets begins e =
     let compared = comparands comparison width source insn d in
     let falls = falls_to p.text slot in
     let jumps = jumps_to p.text slot insn.offset in
-    let way : Bool → Compared → Option Description = λ taken compared. on_way comparison width taken insn d compared in
-    let found = then_ok (both compared (both falls jumps)) (λ x. Ok (target x.1.0 (way false x.0) ++ target x.1.1 (way true x.0))) targets e in
+    let successor : Bool → Compared → Option Description = λ taken compared. on_successor comparison width taken insn d compared in
+    let found = then_ok (both compared (both falls jumps)) (λ x. Ok (target x.1.0 (successor false x.0) ++ target x.1.1 (successor true x.0))) targets e in
     let asked = both_ok compared (both falls jumps) found.0 found.1 in
     let led = both_ok falls jumps found.0.1 asked.1 in
     let next = found.0.1.0 in
     let jump = found.0.1.1 in
-    let same : (target next (way false found.0.0) ++ target jump (way true found.0.0)) ≡ targets = cc (found.2) in
+    let same : (target next (successor false found.0.0) ++ target jump (successor true found.0.0)) ≡ targets = cc (found.2) in
     subst (λ xs. All (IsAhead p slot) xs) same
-    (All-append (IsAhead p slot) (target next (way false found.0.0)) (target jump (way true found.0.0))
-    (target_ahead p slot next (way false found.0.0) (falls_ahead p slot next begins led.0))
-    (target_ahead p slot jump (way true found.0.0) (lands_ahead p slot jump (pos (slot + width_at p.text slot) +ℤ insn.offset) led.1)))
+    (All-append (IsAhead p slot) (target next (successor false found.0.0)) (target jump (successor true found.0.0))
+    (target_ahead p slot next (successor false found.0.0) (falls_ahead p slot next begins led.0))
+    (target_ahead p slot jump (successor true found.0.0) (lands_ahead p slot jump (pos (slot + width_at p.text slot) +ℤ insn.offset) led.1)))
 
 -- where an operation leads, there are instructions
 ahead_by : (p : Subject) (operation : Operation) (slot : ℕ) (d : Description) (targets : List (ℕ × Description)) → is_instruction p.text slot ≡ true → flow_by p operation slot d ≡ Ok targets → All (IsAhead p slot) targets

@@ -1,7 +1,7 @@
 pub mod Registers
 pub mod Shapes
-pub mod Places
-pub mod Ways
+pub mod Mask
+pub mod Successors
 pub mod Tables
 pub mod Uniqueness
 pub mod Flows

@@ -29,11 +29,11 @@ use Rattle.verifier_kinds.specs.Kinds.{IsOfCallBelow, constant, shape_at}
 use Rattle.verifier_kinds.specs.Descriptions.{IsDescription, IsOfCallsBelow, IsSlotOfCallBelow, register_of, slot_of, start_description, with_kind, with_slot, with_unset}
 use Rattle.verifier_kinds.specs.Refinement.{refined}
 use Rattle.verifier_kinds.specs.Arithmetic.{arith_by}
-use Rattle.verifier_kinds.proofs.Calls.{arithmetic_names, join_names_of_left, names_later, settled_names, start_names_none, with_kind_names, with_slot_names, with_unset_names}
+use Rattle.verifier_kinds.proofs.Calls.{arithmetic_names, join_names_of_left, names_later, resolved_names, start_names_none, with_kind_names, with_slot_names, with_unset_names}
 use Rattle.verifier.specs.declared.jumps.Compared.{Compared}
 use Rattle.verifier.specs.declared.jumps.Compared.TheVariants.{Numbers, Answer}
 use Rattle.verifier.specs.Subject.{Subject}
-use Rattle.verifier.specs.Flow.{◌>>=◌, both, known_or, holds_or, read_kind, writable, write_kind, operand_kind, dst_is_known, computed_kind, after_alu, loaded_range, slot_kind, context_place, stack_place, value_size_of, value_access, load_kind, loaded_kind, after_load, name_kind, at_offset, first_value_kind, wide_kind, after_load_immediate, is_number, written_slot, stored, after_store, comparands, checked_kind, holds_of_null, on_way, falls_to, jumps_to, target, called_map, answer_kind, without_arguments, after_call, after, falls_on, flow_of_branch, flow_by, flow}
+use Rattle.verifier.specs.Flow.{◌>>=◌, both, known_or, holds_or, read_kind, writable, write_kind, operand_kind, dst_is_known, computed_kind, after_alu, loaded_range, slot_kind, context_offset, stack_offset, value_size_of, value_access, load_kind, loaded_kind, after_load, name_kind, at_offset, first_value_kind, wide_kind, after_load_immediate, is_number, written_slot, stored, after_store, comparands, checked_kind, holds_of_null, on_successor, falls_to, jumps_to, target, called_map, answer_kind, without_arguments, after_call, after, falls_on, flow_of_branch, flow_by, flow}
 use Rattle.verifier.specs.Table.{Table, described, flows_by, flows_from, targets_of, known_with, arrived, incoming}
 use Rattle.verifier.specs.Pass.{AreDescribed, FlowDescribed}
 use Rattle.verifier.proofs.Flows.{both_ok, then_ok, known_ok, flow_ok}
@@ -76,10 +76,10 @@ loaded_names slot size extension (Bytes set) at kind below e = chosen_kind slot 
 
 load_names : (slot : ℕ) (p : Subject) (size : Size) (extension : Extension) (insn : Insn) (d : Description) (base kind : Kind) → IsOfCallsBelow slot d → load_kind p size extension insn d base ≡ Ok kind → IsOfCallBelow slot kind
 load_names slot p size extension insn d (Context k) kind below e =
-    let found = then_ok (context_place p.context_size (k +ℤ insn.offset) (byte_count size)) (λ at. Ok (Scalar (loaded_range size extension))) kind e in
+    let found = then_ok (context_offset p.context_size (k +ℤ insn.offset) (byte_count size)) (λ at. Ok (Scalar (loaded_range size extension))) kind e in
     number_names slot (loaded_range size extension) kind found.2
 load_names slot p size extension insn d (Stack k) kind below e =
-    let found = then_ok (stack_place (k +ℤ insn.offset) (byte_count size)) (λ at. slot_kind size extension (slot_of d (at / 8)) at) kind e in
+    let found = then_ok (stack_offset (k +ℤ insn.offset) (byte_count size)) (λ at. slot_kind size extension (slot_of d (at / 8)) at) kind e in
     loaded_names slot size extension (slot_of d (found.0 / 8)) found.0 kind (below.stack (found.0 / 8)) found.2
 load_names slot p size extension insn d (MapValue m offsets) kind below e =
     let found = then_ok (value_access (value_size_of p m) offsets insn.offset (byte_count size)) (λ within. Ok (Scalar (loaded_range size extension))) kind e in
@@ -159,7 +159,7 @@ written_names slot size before at pointer to below e = absurd cc
 
 stored_names : (slot : ℕ) (p : Subject) (size : Size) (insn : Insn) (d e : Description) (base kind : Kind) → IsOfCallsBelow slot d → IsOfCallBelow slot kind → stored p size insn d base kind ≡ Ok e → IsOfCallsBelow slot e
 stored_names slot p size insn d e (Stack k) kind below names h =
-    let found = then_ok (stack_place (k +ℤ insn.offset) (byte_count size)) (λ at. written_slot size (slot_of d (at / 8)) at kind >>= λ to. Ok (with_slot d (at / 8) to)) e h in
+    let found = then_ok (stack_offset (k +ℤ insn.offset) (byte_count size)) (λ at. written_slot size (slot_of d (at / 8)) at kind >>= λ to. Ok (with_slot d (at / 8) to)) e h in
     let at = found.0 in
     let written = then_ok (written_slot size (slot_of d (at / 8)) at kind) (λ to. Ok (with_slot d (at / 8) to)) e found.2 in
     let same : with_slot d (at / 8) written.0 ≡ e = cc (written.2) in
@@ -231,34 +231,34 @@ jump_names p slot distance d targets below h =
     let same : target found.0 (Some d) ≡ targets = cc (found.2) in
     subst (NameUpTo slot) same (target_names slot found.0 (Some d) (later slot d below))
 
--- what a jump tells names no call
-told_names : (slot : ℕ) (insn : Insn) (d : Description) (range : Option Range) → IsOfCallsBelow slot d → IfSome (option_map (λ range. with_kind d insn.dst (Scalar range)) range) (IsOfCallsBelow (suc slot))
-told_names slot insn d None below = tt
-told_names slot insn d (Some range) below = later slot (with_kind d insn.dst (Scalar range)) (with_kind_names slot d insn.dst (Scalar range) tt below)
+-- what a jump gives names no call
+learned_names : (slot : ℕ) (insn : Insn) (d : Description) (range : Option Range) → IsOfCallsBelow slot d → IfSome (option_map (λ range. with_kind d insn.dst (Scalar range)) range) (IsOfCallsBelow (suc slot))
+learned_names slot insn d None below = tt
+learned_names slot insn d (Some range) below = later slot (with_kind d insn.dst (Scalar range)) (with_kind_names slot d insn.dst (Scalar range) tt below)
 
 checked_names : (slot m : ℕ) (null : Bool) → IsOfCallBelow slot (checked_kind m null)
 checked_names slot m true = tt
 checked_names slot m false = tt
 
-way_names : (slot : ℕ) (comparison : Comparison) (width : Width) (taken : Bool) (insn : Insn) (d : Description) (compared : Compared) → IsOfCallsBelow slot d → IfSome (on_way comparison width taken insn d compared) (IsOfCallsBelow (suc slot))
-way_names slot comparison width true insn d (Numbers a b) below = told_names slot insn d (refined comparison width true a b) below
-way_names slot comparison width false insn d (Numbers a b) below = told_names slot insn d (refined comparison width false a b) below
-way_names slot comparison width true insn d (Answer m call) below =
-    later slot _ (settled_names slot call _ d (checked_names slot m (holds_of_null comparison)) below)
-way_names slot comparison width false insn d (Answer m call) below =
-    later slot _ (settled_names slot call _ d (checked_names slot m _) below)
+successor_names : (slot : ℕ) (comparison : Comparison) (width : Width) (taken : Bool) (insn : Insn) (d : Description) (compared : Compared) → IsOfCallsBelow slot d → IfSome (on_successor comparison width taken insn d compared) (IsOfCallsBelow (suc slot))
+successor_names slot comparison width true insn d (Numbers a b) below = learned_names slot insn d (refined comparison width true a b) below
+successor_names slot comparison width false insn d (Numbers a b) below = learned_names slot insn d (refined comparison width false a b) below
+successor_names slot comparison width true insn d (Answer m call) below =
+    later slot _ (resolved_names slot call _ d (checked_names slot m (holds_of_null comparison)) below)
+successor_names slot comparison width false insn d (Answer m call) below =
+    later slot _ (resolved_names slot call _ d (checked_names slot m _) below)
 
 branch_names : (p : Subject) (comparison : Comparison) (width : Width) (source : Source) (insn : Insn) (slot : ℕ) (d : Description) (targets : List (ℕ × Description)) → IsOfCallsBelow slot d → flow_of_branch p comparison width source insn slot d ≡ Ok targets → NameUpTo slot targets
 branch_names p comparison width source insn slot d targets below e =
-    let way : Bool → Compared → Option Description = λ taken compared. on_way comparison width taken insn d compared in
-    let found = then_ok (both (comparands comparison width source insn d) (both (falls_to p.text slot) (jumps_to p.text slot insn.offset))) (λ x. Ok (target x.1.0 (way false x.0) ++ target x.1.1 (way true x.0))) targets e in
+    let successor : Bool → Compared → Option Description = λ taken compared. on_successor comparison width taken insn d compared in
+    let found = then_ok (both (comparands comparison width source insn d) (both (falls_to p.text slot) (jumps_to p.text slot insn.offset))) (λ x. Ok (target x.1.0 (successor false x.0) ++ target x.1.1 (successor true x.0))) targets e in
     let next = found.0.1.0 in
     let jump = found.0.1.1 in
-    let same : (target next (way false found.0.0) ++ target jump (way true found.0.0)) ≡ targets = cc (found.2) in
+    let same : (target next (successor false found.0.0) ++ target jump (successor true found.0.0)) ≡ targets = cc (found.2) in
     subst (NameUpTo slot) same
-    (All-append (λ t. IsOfCallsBelow (suc slot) t.1) (target next (way false found.0.0)) (target jump (way true found.0.0))
-    (target_names slot next (way false found.0.0) (way_names slot comparison width false insn d found.0.0 below))
-    (target_names slot jump (way true found.0.0) (way_names slot comparison width true insn d found.0.0 below)))
+    (All-append (λ t. IsOfCallsBelow (suc slot) t.1) (target next (successor false found.0.0)) (target jump (successor true found.0.0))
+    (target_names slot next (successor false found.0.0) (successor_names slot comparison width false insn d found.0.0 below))
+    (target_names slot jump (successor true found.0.0) (successor_names slot comparison width true insn d found.0.0 below)))
 
 names_by : (p : Subject) (operation : Operation) (slot : ℕ) (d : Description) (targets : List (ℕ × Description)) → IsOfCallsBelow slot d → flow_by p operation slot d ≡ Ok targets → NameUpTo slot targets
 unfolding flow_by

@@ -47,17 +47,17 @@ use Rattle.verifier_kinds.proofs.Moves.{int_le_true, true_int_le}
 use Rattle.verifier_kinds.proofs.Under.{IsKindUnder, IsSlotUnder, IsDescriptionUnder, kind_under_raised, description_under_trans}
 use Rattle.verifier_kinds.proofs.Ranges.{divided_less}
 use Rattle.verifier_kinds.proofs.NarrowerKinds.{IsResultBelow, result_below_self, IsKindNarrower, IsKnownNarrower, IsLeftWithin, arithmetic_narrows, refined_narrows}
-use Rattle.verifier_kinds.proofs.NarrowerDescriptions.{IsNarrower, IsSlotNarrower, IsAlikeBelow, alike, register_narrows, slot_narrows, with_kind_below, with_slot_below, with_unset_below, places_known, none_known, places_more, places_written, settled_below}
+use Rattle.verifier_kinds.proofs.NarrowerDescriptions.{IsNarrower, IsSlotNarrower, IsAlikeBelow, alike, register_narrows, slot_narrows, with_kind_below, with_slot_below, with_unset_below, mask_known, none_known, mask_more, mask_written, resolved_below}
 use Rattle.verifier.specs.declared.jumps.Compared.{Compared}
 use Rattle.verifier.specs.declared.jumps.Compared.TheVariants.{Numbers, Answer}
 use Rattle.verifier.specs.Subject.{Subject}
-use Rattle.verifier.specs.Flow.{◌>>=◌, both, first_of, holds_or, known_or, read_kind, writable, write_kind, operand_kind, dst_is_known, computed_kind, after_alu, lies_below, aligned, context_place, stack_place, loaded_range, places, slot_kind, value_size_of, begins_in_value, ends_in_value, lies_in_value, is_aligned_in_value, value_access, load_kind, loaded_kind, after_load, wide_kind, after_load_immediate, written_slot, is_number, after_stack_store, stored, after_store, falls_to, jumps_to, target, is_null_check, compared_kinds, comparands, holds_of_null, checked_kind, on_way, flow_of_branch, byte_in_slot, bytes_known, argument, name_in, flags_in, named_map, key_argument, value_argument, flags_argument, update_arguments, called_map, answer_kind, without_arguments, after_call, falls_on, flow_of_exit, flow_by, flow}
+use Rattle.verifier.specs.Flow.{◌>>=◌, both, first_of, holds_or, known_or, read_kind, writable, write_kind, operand_kind, dst_is_known, computed_kind, after_alu, lies_below, aligned, context_offset, stack_offset, loaded_range, mask, slot_kind, value_size_of, begins_in_value, ends_in_value, lies_in_value, is_aligned_in_value, value_access, load_kind, loaded_kind, after_load, wide_kind, after_load_immediate, written_slot, is_number, after_stack_store, stored, after_store, falls_to, jumps_to, target, is_null_check, compared_kinds, comparands, holds_of_null, checked_kind, on_successor, flow_of_branch, byte_in_slot, bytes_known, argument, name_in, flags_in, named_map, key_argument, value_argument, flags_argument, update_arguments, called_map, answer_kind, without_arguments, after_call, falls_on, flow_of_exit, flow_by, flow}
 use Rattle.verifier.specs.Table.{Table, described, IsContained}
-use Rattle.verifier.specs.Wide.{computed_kind_at, begin_number, end_number, begins_at, ends_at, lies_at, access_at, load_kind_at, loaded_kind_at, wide_kind_at, stored_at, after_store_at, on_way_at, flow_of_branch_at, flow_by_at, flow_at}
+use Rattle.verifier.specs.Wide.{computed_kind_at, begin_number, end_number, begins_at, ends_at, lies_at, access_at, load_kind_at, loaded_kind_at, wide_kind_at, stored_at, after_store_at, on_successor_at, flow_of_branch_at, flow_by_at, flow_at}
 
 -- ---- questions
 
--- that a rule isn't broken is all that some questions tell
+-- that a rule isn't broken is all that some questions give
 abbrev pub IsAsked : Unit {0} → Unit {0} → Type 0
 IsAsked x y = Unit {0}
 
@@ -139,11 +139,11 @@ alu_below extra code width source insn d e n =
 -- ---- access to the stack
 
 -- an access has a byte
-some_place : (at : ℕ) (size : Size) → places at size ≡ 0 → ⊥
-some_place at Byte e = let positive = pow_pos (at % 8) in absurd (omega arith)
-some_place at HalfWord e = let positive = pow_pos (at % 8) in absurd (omega arith)
-some_place at Word e = let positive = pow_pos (at % 8) in absurd (omega arith)
-some_place at DoubleWord e = let positive = pow_pos (at % 8) in absurd (omega arith)
+some_offset : (at : ℕ) (size : Size) → mask at size ≡ 0 → ⊥
+some_offset at Byte e = let positive = pow_pos (at % 8) in absurd (omega arith)
+some_offset at HalfWord e = let positive = pow_pos (at % 8) in absurd (omega arith)
+some_offset at Word e = let positive = pow_pos (at % 8) in absurd (omega arith)
+some_offset at DoubleWord e = let positive = pow_pos (at % 8) in absurd (omega arith)
 
 -- where no byte of a slot is known, no access to it is
 none_loaded : (set access : ℕ) → (access ≡ 0 → ⊥) → bit_and 0 set ≡ set → bit_and set access ≡ access → ⊥
@@ -156,21 +156,21 @@ word_within : (range : Range) → IsNormal range → IsWithin range (full One)
 word_within range p = let fits = p.fits in record { low = omega arith; high = omega arith; aligned = omega arith }
 
 -- what is loaded of bytes of which at least as much is known
-loaded_from : (extra : ℕ) (size : Size) (extension : Extension) (a : StackSlot) (set at : ℕ) → IsSlotNarrower extra a (Bytes set) → bit_and set (places at size) ≡ places at size → IsResultBelow (IsKindUnder extra) (slot_kind size extension a at) (Ok (Scalar (loaded_range size extension)))
+loaded_from : (extra : ℕ) (size : Size) (extension : Extension) (a : StackSlot) (set at : ℕ) → IsSlotNarrower extra a (Bytes set) → bit_and set (mask at size) ≡ mask at size → IsResultBelow (IsKindUnder extra) (slot_kind size extension a at) (Ok (Scalar (loaded_range size extension)))
 loaded_from extra DoubleWord Zero (Kept (Scalar range)) set at n known = (range, refl, word_within range n.smaller)
 loaded_from extra DoubleWord Sign (Kept (Scalar range)) set at n known = (range, refl, word_within range n.smaller)
 loaded_from extra Byte extension (Kept (Scalar range)) set at n known = kind_under_raised extra (Scalar (loaded_range Byte extension))
 loaded_from extra HalfWord extension (Kept (Scalar range)) set at n known = kind_under_raised extra (Scalar (loaded_range HalfWord extension))
 loaded_from extra Word extension (Kept (Scalar range)) set at n known = kind_under_raised extra (Scalar (loaded_range Word extension))
-loaded_from extra size extension (Kept pointer) set at n known = absurd (none_loaded set (places at size) (some_place at size) n.below known)
+loaded_from extra size extension (Kept pointer) set at n known = absurd (none_loaded set (mask at size) (some_offset at size) n.below known)
 loaded_from extra size extension (Bytes more) set at n known =
-    rw (cond-true (bit_and more (places at size) == places at size) (Ok (Scalar (loaded_range size extension))) (Err unset_stack) (eq-eqb (bit_and more (places at size)) (places at size) (places_known more set (places at size) n.below known)))
+    rw (cond-true (bit_and more (mask at size) == mask at size) (Ok (Scalar (loaded_range size extension))) (Err unset_stack) (eq-eqb (bit_and more (mask at size)) (mask at size) (mask_known more set (mask at size) n.below known)))
     (kind_under_raised extra (Scalar (loaded_range size extension)))
 
 slot_kind_below : (extra : ℕ) (size : Size) (extension : Extension) (a b : StackSlot) (at : ℕ) → IsSlotNarrower extra a b → IsResultBelow (IsKindUnder extra) (slot_kind size extension a at) (slot_kind size extension b at)
 slot_kind_below extra size extension a (Bytes set) at n =
-    cond_both (bit_and set (places at size) == places at size) (Ok (Scalar (loaded_range size extension))) (Err unset_stack) (IsResultBelow (IsKindUnder extra) (slot_kind size extension a at))
-    (λ t. loaded_from extra size extension a set at n (eqb-true (bit_and set (places at size)) (places at size) t)) (λ _. tt)
+    cond_both (bit_and set (mask at size) == mask at size) (Ok (Scalar (loaded_range size extension))) (Err unset_stack) (IsResultBelow (IsKindUnder extra) (slot_kind size extension a at))
+    (λ t. loaded_from extra size extension a set at n (eqb-true (bit_and set (mask at size)) (mask at size) t)) (λ _. tt)
 slot_kind_below extra DoubleWord extension a (Kept kind) at n = let (x, is, below) = n.below in rw is below
 slot_kind_below extra Byte extension a (Kept (Scalar range)) at n = let (x, is, below) = n.below in rw (is, below.1) (kind_under_raised extra (Scalar (loaded_range Byte extension)))
 slot_kind_below extra HalfWord extension a (Kept (Scalar range)) at n = let (x, is, below) = n.below in rw (is, below.1) (kind_under_raised extra (Scalar (loaded_range HalfWord extension)))
@@ -271,11 +271,11 @@ access_below extra value_size offsets outer by size e p w =
 load_below : (extra : ℕ) (p : Subject) (size : Size) (extension : Extension) (insn : Insn) (d e : Description) (a c : Kind) → IsNarrower extra d e → IsKindNarrower extra a c → IsResultBelow (IsKindUnder extra) (load_kind p size extension insn d a) (load_kind_at extra p size extension insn e c)
 load_below extra p size extension insn d e a (Context k) n q =
     rw (q.below)
-    (then_same (IsKindUnder extra) (context_place p.context_size (k +ℤ insn.offset) (byte_count size)) (λ at. Ok (Scalar (loaded_range size extension))) (λ at. Ok (Scalar (loaded_range size extension)))
+    (then_same (IsKindUnder extra) (context_offset p.context_size (k +ℤ insn.offset) (byte_count size)) (λ at. Ok (Scalar (loaded_range size extension))) (λ at. Ok (Scalar (loaded_range size extension)))
     (λ at. kind_under_raised extra (Scalar (loaded_range size extension))))
 load_below extra p size extension insn d e a (Stack k) n q =
     rw (q.below)
-    (then_same (IsKindUnder extra) (stack_place (k +ℤ insn.offset) (byte_count size)) (λ at. slot_kind size extension (slot_of d (at / 8)) at) (λ at. slot_kind size extension (slot_of e (at / 8)) at)
+    (then_same (IsKindUnder extra) (stack_offset (k +ℤ insn.offset) (byte_count size)) (λ at. slot_kind size extension (slot_of d (at / 8)) at) (λ at. slot_kind size extension (slot_of e (at / 8)) at)
     (λ at. slot_kind_below extra size extension (slot_of d (at / 8)) (slot_of e (at / 8)) at (slot_narrows extra d e (at / 8) n)))
 load_below extra p size extension insn d e a (MapValue m outer) n q =
     let (x, is, within) = q.below in
@@ -310,9 +310,9 @@ after_load_immediate_below extra p insn d e n = written_below extra d e insn.dst
 
 written_slot_below : (extra : ℕ) (size : Size) (a b : StackSlot) (at : ℕ) (kind wide : Kind) → IsSlotUnder extra a b → IsKindUnder extra kind wide → IsResultBelow (IsSlotUnder extra) (written_slot size a at kind) (written_slot size b at wide)
 written_slot_below extra DoubleWord a b at kind wide p q = (kind, refl, q)
-written_slot_below extra Byte a b at kind (Scalar range) p (x, is, within) = rw is (places_written (number_bytes a) (number_bytes b) (places at Byte) (places_more extra a b p))
-written_slot_below extra HalfWord a b at kind (Scalar range) p (x, is, within) = rw is (places_written (number_bytes a) (number_bytes b) (places at HalfWord) (places_more extra a b p))
-written_slot_below extra Word a b at kind (Scalar range) p (x, is, within) = rw is (places_written (number_bytes a) (number_bytes b) (places at Word) (places_more extra a b p))
+written_slot_below extra Byte a b at kind (Scalar range) p (x, is, within) = rw is (mask_written (number_bytes a) (number_bytes b) (mask at Byte) (mask_more extra a b p))
+written_slot_below extra HalfWord a b at kind (Scalar range) p (x, is, within) = rw is (mask_written (number_bytes a) (number_bytes b) (mask at HalfWord) (mask_more extra a b p))
+written_slot_below extra Word a b at kind (Scalar range) p (x, is, within) = rw is (mask_written (number_bytes a) (number_bytes b) (mask at Word) (mask_more extra a b p))
 written_slot_below extra Byte a b at kind pointer p q = tt
 written_slot_below extra HalfWord a b at kind pointer p q = tt
 written_slot_below extra Word a b at kind pointer p q = tt
@@ -323,7 +323,7 @@ number_below extra kind pointer q = tt
 
 stack_store_below : (extra : ℕ) (size : Size) (offset : ℤ) (kind wide : Kind) (d e : Description) → IsNarrower extra d e → IsKindUnder extra kind wide → IsResultBelow (IsDescriptionUnder extra) (after_stack_store size offset kind d) (after_stack_store size offset wide e)
 stack_store_below extra size offset kind wide d e n q =
-    then_same (IsDescriptionUnder extra) (stack_place offset (byte_count size))
+    then_same (IsDescriptionUnder extra) (stack_offset offset (byte_count size))
     (λ at. written_slot size (slot_of d (at / 8)) at kind >>= λ slot. Ok (with_slot d (at / 8) slot))
     (λ at. written_slot size (slot_of e (at / 8)) at wide >>= λ slot. Ok (with_slot e (at / 8) slot))
     (λ at.
@@ -364,7 +364,7 @@ byte_below extra a (Kept (Scalar range)) i (x, is, below) = rw (is, below.1) tt
 byte_below extra a (Kept pointer) i p = tt
 byte_below extra (Bytes more) (Bytes set) i p =
     holds_below (bit_and more (2 ^ i) == 2 ^ i) (bit_and set (2 ^ i) == 2 ^ i) unset_stack
-    (λ t. eq-eqb (bit_and more (2 ^ i)) (2 ^ i) (places_known more set (2 ^ i) p (eqb-true (bit_and set (2 ^ i)) (2 ^ i) t)))
+    (λ t. eq-eqb (bit_and more (2 ^ i)) (2 ^ i) (mask_known more set (2 ^ i) p (eqb-true (bit_and set (2 ^ i)) (2 ^ i) t)))
 byte_below extra (Kept (Scalar range)) (Bytes set) i p = asked_below_all (holds_or (bit_and set (2 ^ i) == 2 ^ i) unset_stack)
   where
     asked_below_all : (r : Result (Unit {0}) ℕ) → IsResultBelow IsAsked (Ok tt) r
@@ -418,27 +418,27 @@ key_below extra p d e n =
 flags_argument_below : (extra : ℕ) (d e : Description) → IsNarrower extra d e → IsResultBelow IsAsked (flags_argument d) (flags_argument e)
 flags_argument_below extra d e n = then_below (IsKindNarrower extra) IsAsked (read_kind d 4) (read_kind e 4) flags_in flags_in (read_below extra d e 4 n) (λ x y h. flags_below extra x y (h.below))
 
--- what an update asks of the arguments behind its key, for a map
+-- what an update asks of the arguments after its key, for a map
 value_below : (extra : ℕ) (p : Subject) (d e : Description) (m : ℕ) → IsNarrower extra d e → IsResultBelow IsAsked (value_argument p d (Ok m)) (value_argument p e (Ok m))
 value_below extra p d e m n =
     then_below (IsKindNarrower extra) IsAsked (read_kind d 3) (read_kind e 3) (argument p d (value_size_of p m) 1) (argument p e (value_size_of p m) 1) (read_below extra d e 3 n)
     (λ x y h. argument_below extra p d e (value_size_of p m) 1 x y n (h.below))
 
 -- the arguments that a helper asks for, once it is known what its first one names
-abbrev asked_behind : Subject → MapHelper → Description → Result ℕ ℕ → Result (Unit {0}) ℕ
-asked_behind p Update d name = first_of (value_argument p d name) (flags_argument d)
-asked_behind p other d name = Ok tt
+abbrev asked_following : Subject → MapHelper → Description → Result ℕ ℕ → Result (Unit {0}) ℕ
+asked_following p Update d name = first_of (value_argument p d name) (flags_argument d)
+asked_following p other d name = Ok tt
 
-behind_is : (p : Subject) (helper : MapHelper) (d : Description) → update_arguments p helper d ≡ asked_behind p helper d (named_map d)
-behind_is p Update d = refl
-behind_is p Lookup d = refl
-behind_is p Delete d = refl
+following_is : (p : Subject) (helper : MapHelper) (d : Description) → update_arguments p helper d ≡ asked_following p helper d (named_map d)
+following_is p Update d = refl
+following_is p Lookup d = refl
+following_is p Delete d = refl
 
-behind_below : (extra : ℕ) (p : Subject) (helper : MapHelper) (d e : Description) (m : ℕ) → IsNarrower extra d e → IsResultBelow IsAsked (asked_behind p helper d (Ok m)) (asked_behind p helper e (Ok m))
-behind_below extra p Update d e m n =
+following_below : (extra : ℕ) (p : Subject) (helper : MapHelper) (d e : Description) (m : ℕ) → IsNarrower extra d e → IsResultBelow IsAsked (asked_following p helper d (Ok m)) (asked_following p helper e (Ok m))
+following_below extra p Update d e m n =
     first_below (value_argument p d (Ok m)) (value_argument p e (Ok m)) (flags_argument d) (flags_argument e) (value_below extra p d e m n) (flags_argument_below extra d e n)
-behind_below extra p Lookup d e m n = tt
-behind_below extra p Delete d e m n = tt
+following_below extra p Lookup d e m n = tt
+following_below extra p Delete d e m n = tt
 
 -- Which bytes an update asks for depends on the map that it names: the larger description breaks a rule
 -- where it names none, whatever else it asks for, and else both name the same.
@@ -458,9 +458,9 @@ named_then f g a b (Err n) (Ok m) p q each = absurd p
 
 called_below : (extra : ℕ) (p : Subject) (helper : MapHelper) (d e : Description) → IsNarrower extra d e → IsResultBelow ◌≡◌ (called_map p helper d) (called_map p helper e)
 called_below extra p helper d e n =
-    rw (behind_is p helper d, behind_is p helper e)
-    (named_then (asked_behind p helper d) (asked_behind p helper e) (key_argument p d) (key_argument p e) (named_map d) (named_map e)
-    (named_below extra d e n) (key_below extra p d e n) (λ m. behind_below extra p helper d e m n))
+    rw (following_is p helper d, following_is p helper e)
+    (named_then (asked_following p helper d) (asked_following p helper e) (key_argument p d) (key_argument p e) (named_map d) (named_map e)
+    (named_below extra d e n) (key_below extra p d e n) (λ m. following_below extra p helper d e m n))
 
 without_below : (extra : ℕ) (d e : Description) → IsAlikeBelow extra d e → IsAlikeBelow extra (without_arguments d) (without_arguments e)
 without_below extra d e n =
@@ -507,11 +507,11 @@ target_below : (extra to : ℕ) (d e : Description) → IsDescriptionUnder extra
 target_below extra to d e below table h =
     All-cons (IsContainedUnder extra table) (to, d) [] (contained_below extra table to d e below (All-head (IsContained table) (to, e) [] h)) (All-nil (IsContainedUnder extra table))
 
--- both of what may flow on the two ways of a jump
-ways_below : (extra next jump : ℕ) (a b c d : Option Description) → AreTargetsUnder extra (target next a) (target next c) → AreTargetsUnder extra (target jump b) (target jump d) → AreTargetsUnder extra (target next a ++ target jump b) (target next c ++ target jump d)
-ways_below extra next jump a b None d p q table h =
+-- both of what may flow on the two successors of a jump
+successors_below : (extra next jump : ℕ) (a b c d : Option Description) → AreTargetsUnder extra (target next a) (target next c) → AreTargetsUnder extra (target jump b) (target jump d) → AreTargetsUnder extra (target next a ++ target jump b) (target next c ++ target jump d)
+successors_below extra next jump a b None d p q table h =
     All-append (IsContainedUnder extra table) (target next a) (target jump b) (p table (All-nil (IsContained table))) (q table h)
-ways_below extra next jump a b (Some c) d p q table h =
+successors_below extra next jump a b (Some c) d p q table h =
     All-append (IsContainedUnder extra table) (target next a) (target jump b)
     (p table (All-cons (IsContained table) (next, c) [] (All-head (IsContained table) (next, c) (target jump d) h) (All-nil (IsContained table))))
     (q table (All-tail (IsContained table) (next, c) (target jump d) h))
@@ -553,38 +553,38 @@ comparands_below extra comparison width source insn d e n =
     (both_below (IsKindNarrower extra) (IsKindNarrower extra) (read_kind d insn.dst) (read_kind e insn.dst) (operand_kind width source insn d) (operand_kind width source insn e) (read_below extra d e insn.dst n) (operand_below extra width source insn d e n))
     (λ x y h. compared_below extra (is_null_check comparison width source insn) x.0 x.1 y.0 y.1 h.0 h.1)
 
--- what a way tells of dst
-told_below : (extra : ℕ) (to dst : ℕ) (d e : Description) (r s : Option Range) → IsNarrower extra d e → IsLeftWithin r s → (AreTargetsUnder extra) (target to (option_map (λ range. with_kind d dst (Scalar range)) r)) (target to (option_map (λ range. with_kind e dst (Scalar range)) s))
-told_below extra to dst d e None s n h = λ table g. All-nil (IsContainedUnder extra table)
-told_below extra to dst d e (Some r) (Some s) n h =
+-- what a way says of dst
+learned_below : (extra : ℕ) (to dst : ℕ) (d e : Description) (r s : Option Range) → IsNarrower extra d e → IsLeftWithin r s → (AreTargetsUnder extra) (target to (option_map (λ range. with_kind d dst (Scalar range)) r)) (target to (option_map (λ range. with_kind e dst (Scalar range)) s))
+learned_below extra to dst d e None s n h = λ table g. All-nil (IsContainedUnder extra table)
+learned_below extra to dst d e (Some r) (Some s) n h =
     target_below extra to (with_kind d dst (Scalar r)) (with_kind e dst (Scalar s)) (with_kind_below extra d e dst (Scalar r) (Scalar s) (r, refl, h) (alike extra d e n)).below
-told_below extra to dst d e (Some r) None n h = absurd h
+learned_below extra to dst d e (Some r) None n h = absurd h
 
 checked_below : (extra to call : ℕ) (kind : Kind) (d e : Description) → IsNarrower extra d e → AreTargetsUnder extra (target to (Some (with_answer_known call kind d))) (target to (Some (with_answer_known call (raised_kind extra kind) e)))
 checked_below extra to call kind d e n =
-    target_below extra to (with_answer_known call kind d) (with_answer_known call (raised_kind extra kind) e) (settled_below extra call kind (raised_kind extra kind) d e (kind_under_raised extra kind) (alike extra d e n)).below
+    target_below extra to (with_answer_known call kind d) (with_answer_known call (raised_kind extra kind) e) (resolved_below extra call kind (raised_kind extra kind) d e (kind_under_raised extra kind) (alike extra d e n)).below
 
-way_below : (extra : ℕ) (comparison : Comparison) (width : Width) (taken : Bool) (insn : Insn) (to : ℕ) (d e : Description) (x y : Compared) → IsNarrower extra d e → IsComparedBelow x y → AreTargetsUnder extra (target to (on_way comparison width taken insn d x)) (target to (on_way_at extra comparison width taken insn e y))
-way_below extra comparison width taken insn to d e x (Numbers c b) n (a, f, is, within, also, p, q) =
-    rw is (told_below extra to insn.dst d e (refined comparison width taken a f) (refined comparison width taken c b) n (refined_narrows comparison width taken a f c b p q within also))
-way_below extra comparison width true insn to d e x (Answer m call) n is = rw is (checked_below extra to call (checked_kind m (holds_of_null comparison)) d e n)
-way_below extra comparison width false insn to d e x (Answer m call) n is = rw is (checked_below extra to call (checked_kind m (not (holds_of_null comparison))) d e n)
+successor_below : (extra : ℕ) (comparison : Comparison) (width : Width) (taken : Bool) (insn : Insn) (to : ℕ) (d e : Description) (x y : Compared) → IsNarrower extra d e → IsComparedBelow x y → AreTargetsUnder extra (target to (on_successor comparison width taken insn d x)) (target to (on_successor_at extra comparison width taken insn e y))
+successor_below extra comparison width taken insn to d e x (Numbers c b) n (a, f, is, within, also, p, q) =
+    rw is (learned_below extra to insn.dst d e (refined comparison width taken a f) (refined comparison width taken c b) n (refined_narrows comparison width taken a f c b p q within also))
+successor_below extra comparison width true insn to d e x (Answer m call) n is = rw is (checked_below extra to call (checked_kind m (holds_of_null comparison)) d e n)
+successor_below extra comparison width false insn to d e x (Answer m call) n is = rw is (checked_below extra to call (checked_kind m (not (holds_of_null comparison))) d e n)
 
 branch_below : (extra : ℕ) (p : Subject) (comparison : Comparison) (width : Width) (source : Source) (insn : Insn) (slot : ℕ) (d e : Description) → IsNarrower extra d e → IsResultBelow (AreTargetsUnder extra) (flow_of_branch p comparison width source insn slot d) (flow_of_branch_at extra p comparison width source insn slot e)
 branch_below extra p comparison width source insn slot d e n =
     let targets : Result (ℕ × ℕ) ℕ = both (falls_to p.text slot) (jumps_to p.text slot insn.offset) in
-    let way : Bool → Compared → Option Description = λ taken compared. on_way comparison width taken insn d compared in
-    let wide : Bool → Compared → Option Description = λ taken compared. on_way_at extra comparison width taken insn e compared in
+    let successor : Bool → Compared → Option Description = λ taken compared. on_successor comparison width taken insn d compared in
+    let wide : Bool → Compared → Option Description = λ taken compared. on_successor_at extra comparison width taken insn e compared in
     then_below (AreBoth IsComparedBelow ◌≡◌) (AreTargetsUnder extra)
     (both (comparands comparison width source insn d) targets) (both (comparands comparison width source insn e) targets)
-    (λ x. Ok (target x.1.0 (way false x.0) ++ target x.1.1 (way true x.0)))
+    (λ x. Ok (target x.1.0 (successor false x.0) ++ target x.1.1 (successor true x.0)))
     (λ x. Ok (target x.1.0 (wide false x.0) ++ target x.1.1 (wide true x.0)))
     (both_below IsComparedBelow ◌≡◌ (comparands comparison width source insn d) (comparands comparison width source insn e) targets targets
     (comparands_below extra comparison width source insn d e n) (result_below_self ◌≡◌ targets (λ x. refl)))
     (λ x y h.
     rw (h.1)
-    (ways_below extra y.1.0 y.1.1 (way false x.0) (way true x.0) (wide false y.0) (wide true y.0)
-    (way_below extra comparison width false insn y.1.0 d e x.0 y.0 n h.0) (way_below extra comparison width true insn y.1.1 d e x.0 y.0 n h.0)))
+    (successors_below extra y.1.0 y.1.1 (successor false x.0) (successor true x.0) (wide false y.0) (wide true y.0)
+    (successor_below extra comparison width false insn y.1.0 d e x.0 y.0 n h.0) (successor_below extra comparison width true insn y.1.1 d e x.0 y.0 n h.0)))
 
 -- ---- instructions
 

@@ -24,9 +24,9 @@ at_slot : (p : Subject) (kept : Kept) (pending : List (Option (Box Description))
 at_slot p kept pending coming slot h i = tight_is_tight p (slots_of p.text) slot h ∙ sym (i.ahead slot (omega arith) h)
 
 -- what arrives from one target at its own slot
-arrived_met : (slot : ℕ) (known coming : Option Description) → arrived slot known (target slot coming) ≡ known_with_coming known coming
-arrived_met slot known None = refl
-arrived_met slot known (Some d) = if_same (λ o. o ≡ Some (known_with known d)) slot slot (Some (known_with known d)) known (λ _. refl) (λ ne. absurd (ne refl))
+arrived_fulfilled : (slot : ℕ) (known coming : Option Description) → arrived slot known (target slot coming) ≡ known_with_coming known coming
+arrived_fulfilled slot known None = refl
+arrived_fulfilled slot known (Some d) = if_same (λ o. o ≡ Some (known_with known d)) slot slot (Some (known_with known d)) known (λ _. refl) (λ ne. absurd (ne refl))
 
 -- at the slot of an instruction what jumped there is joined with what falls there
 pub known_at : (p : Subject) (kept : Kept) (pending : List (Option (Box Description))) (coming : Option Description) (slot : ℕ) → IsInstruction p.text slot → IsPassed p kept pending coming slot → described (tight_table p) slot ≡ known_with_coming (pending_at pending slot) coming
@@ -34,7 +34,7 @@ known_at p kept pending coming slot instruction i =
     let here : next_at p.text slot ≡ slot = rw (instruction.begins) refl in
     at_slot p kept pending coming slot instruction.within i
     ∙ ap (λ s. arrived slot (pending_at pending slot) (target s coming)) here
-    ∙ arrived_met slot (pending_at pending slot) coming
+    ∙ arrived_fulfilled slot (pending_at pending slot) coming
 
 -- the tight table describes instructions alone
 tight_instruction : (p : Subject) (slot : ℕ) → IsWellFormed p.text → slot < slots_of p.text → IfSome (described (tight_table p) slot) (λ d. IsInstruction p.text slot)
@@ -113,15 +113,15 @@ passed_on p kept after pending entered coming next known slot h i found onward k
   ];
 }
 
--- behind a slot at which no instruction begins one does
+-- after a slot at which no instruction begins one does
 next_past : (text : List ℕ) (slot : ℕ) → is_instruction text slot ≡ false → next_at text (suc slot) ≡ next_at text slot
 unfolding is_instruction
 next_past text slot between = rw between refl
 
--- behind an instruction the next one begins
-pub next_behind : (text : List ℕ) (slot : ℕ) → is_instruction text slot ≡ true → next_at text (suc slot) ≡ slot + width_at text slot
+-- after an instruction the next one begins
+pub next_following : (text : List ℕ) (slot : ℕ) → is_instruction text slot ≡ true → next_at text (suc slot) ≡ slot + width_at text slot
 unfolding is_instruction
-next_behind text slot begins = elim (eqb_tells (opcode_at text slot) wide_opcode) [
+next_following text slot begins = elim (eqb_tells (opcode_at text slot) wide_opcode) [
   | inl wide ↦ let two : suc (suc slot) ≡ slot + 2 = omega arith in rw (begins, wide.0) two
   | inr narrow ↦ let one : suc slot ≡ slot + 1 = omega arith in rw (begins, narrow.0) one
 ]
@@ -132,7 +132,7 @@ passed_between p kept after pending coming slot w h between i put =
     passed_on p kept after pending pending coming coming None slot h i (not_reached p slot w h between) tt (All-nil (λ t. IsDescription t.1)) put refl
     (λ s k. ap (λ to. arrived s (pending_at pending s) (target to coming)) (next_past p.text slot between))
 
--- what falls to a slot doesn't arrive behind it
+-- what falls to a slot doesn't arrive after it
 falls_here : (s slot : ℕ) (known coming : Option Description) → slot < s → arrived s known (target slot coming) ≡ known
 falls_here s slot known None h = refl
 falls_here s slot known (Some d) h = if_same (λ o. o ≡ known) slot s (Some (known_with known d)) known (λ e. absurd (omega arith)) (λ _. refl)
@@ -160,7 +160,7 @@ passed_flow p kept after pending taken entered coming next slot d targets instru
     (subst AreDescribed (sym same) kinds) put (more ∙ len)
     (λ s k.
     let other : s ≢ slot = omega arith in
-    ap (λ to. arrived s (pending_at entered s) (target to next)) (next_behind p.text slot instruction.begins)
+    ap (λ to. arrived s (pending_at entered s) (target to next)) (next_following p.text slot instruction.begins)
     ∙ flowed s
     ∙ ap (λ o. arrived s o targets) (others s other ∙ sym (before_ahead p pending coming slot s instruction.begins k))
     ∙ ap (arrived s (arrived s (pending_at pending s) (target (next_at p.text slot) coming))) (sym same))

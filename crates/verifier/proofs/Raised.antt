@@ -45,9 +45,9 @@ use Rattle.verifier_kinds.proofs.Raised.{IsRaisedKind, arithmetic_raised, regist
 use Rattle.verifier.specs.declared.jumps.Compared.{Compared}
 use Rattle.verifier.specs.declared.jumps.Compared.TheVariants.{Numbers, Answer}
 use Rattle.verifier.specs.Subject.{Subject}
-use Rattle.verifier.specs.Flow.{◌>>=◌, both, first_of, holds_or, known_or, read_kind, writable, write_kind, operand_kind, dst_is_known, computed_kind, after_alu, lies_below, aligned, context_place, stack_place, loaded_range, places, slot_kind, value_size_of, begins_in_value, ends_in_value, lies_in_value, is_aligned_in_value, value_access, load_kind, loaded_kind, after_load, wide_kind, after_load_immediate, written_slot, is_number, after_stack_store, stored, after_store, falls_to, jumps_to, target, is_null_check, compared_kinds, comparands, holds_of_null, checked_kind, on_way, flow_of_branch, byte_in_slot, bytes_known, argument, points, name_in, flags_in, named_map, key_argument, value_argument, flags_argument, update_arguments, called_map, answer_kind, without_arguments, after_call, falls_on, flow_of_exit, flow_by, flow}
+use Rattle.verifier.specs.Flow.{◌>>=◌, both, first_of, holds_or, known_or, read_kind, writable, write_kind, operand_kind, dst_is_known, computed_kind, after_alu, lies_below, aligned, context_offset, stack_offset, loaded_range, mask, slot_kind, value_size_of, begins_in_value, ends_in_value, lies_in_value, is_aligned_in_value, value_access, load_kind, loaded_kind, after_load, wide_kind, after_load_immediate, written_slot, is_number, after_stack_store, stored, after_store, falls_to, jumps_to, target, is_null_check, compared_kinds, comparands, holds_of_null, checked_kind, on_successor, flow_of_branch, byte_in_slot, bytes_known, argument, points, name_in, flags_in, named_map, key_argument, value_argument, flags_argument, update_arguments, called_map, answer_kind, without_arguments, after_call, falls_on, flow_of_exit, flow_by, flow}
 use Rattle.verifier.specs.Table.{Table, described, IsContained, IsLawful}
-use Rattle.verifier.specs.Wide.{computed_kind_at, begin_number, end_number, begins_at, ends_at, lies_at, access_at, load_kind_at, loaded_kind_at, wide_kind_at, stored_at, after_store_at, on_way_at, flow_of_branch_at, flow_by_at, flow_at, raised_table, IsKeptWide, IsWideLawful}
+use Rattle.verifier.specs.Wide.{computed_kind_at, begin_number, end_number, begins_at, ends_at, lies_at, access_at, load_kind_at, loaded_kind_at, wide_kind_at, stored_at, after_store_at, on_successor_at, flow_of_branch_at, flow_by_at, flow_at, raised_table, IsKeptWide, IsWideLawful}
 use Rattle.verifier.proofs.Narrower.{IsAsked, AreBoth, then_below, then_same, both_below, holds_below, asked_self, raised_rest}
 
 -- ---- registers
@@ -95,7 +95,7 @@ alu_raised extra code width source insn d whole =
 
 slot_kind_raised : (extra : ℕ) (size : Size) (extension : Extension) (slot : StackSlot) (at : ℕ) → IsResultBelow (IsRaisedKind extra) (slot_kind size extension (raised_slot extra slot) at) (slot_kind size extension slot at)
 slot_kind_raised extra size extension (Bytes set) at =
-    cond_both (bit_and set (places at size) == places at size) (Ok (Scalar (loaded_range size extension))) (Err unset_stack) (λ r. IsResultBelow (IsRaisedKind extra) r r) (λ _. refl) (λ _. tt)
+    cond_both (bit_and set (mask at size) == mask at size) (Ok (Scalar (loaded_range size extension))) (Err unset_stack) (λ r. IsResultBelow (IsRaisedKind extra) r r) (λ _. refl) (λ _. tt)
 slot_kind_raised extra DoubleWord extension (Kept kind) at = refl
 slot_kind_raised extra Byte extension (Kept (Scalar range)) at = refl
 slot_kind_raised extra HalfWord extension (Kept (Scalar range)) at = refl
@@ -148,9 +148,9 @@ access_raised extra value_size offsets by size whole =
 
 load_raised : (extra : ℕ) (p : Subject) (size : Size) (extension : Extension) (insn : Insn) (d : Description) (base : Kind) → extra % 8 ≡ 0 → IsResultBelow (IsRaisedKind extra) (load_kind_at extra p size extension insn (raised_description extra d) (raised_kind extra base)) (load_kind p size extension insn d base)
 load_raised extra p size extension insn d (Context k) whole =
-    then_same (IsRaisedKind extra) (context_place p.context_size (k +ℤ insn.offset) (byte_count size)) (λ at. Ok (Scalar (loaded_range size extension))) (λ at. Ok (Scalar (loaded_range size extension))) (λ at. refl)
+    then_same (IsRaisedKind extra) (context_offset p.context_size (k +ℤ insn.offset) (byte_count size)) (λ at. Ok (Scalar (loaded_range size extension))) (λ at. Ok (Scalar (loaded_range size extension))) (λ at. refl)
 load_raised extra p size extension insn d (Stack k) whole =
-    then_same (IsRaisedKind extra) (stack_place (k +ℤ insn.offset) (byte_count size))
+    then_same (IsRaisedKind extra) (stack_offset (k +ℤ insn.offset) (byte_count size))
     (λ at. slot_kind size extension (slot_of (raised_description extra d) (at / 8)) at) (λ at. slot_kind size extension (slot_of d (at / 8)) at)
     (λ at. rw (slot_of-raised extra d (at / 8)) (slot_kind_raised extra size extension (slot_of d (at / 8)) at))
 load_raised extra p size extension insn d (MapValue m offsets) whole =
@@ -186,9 +186,9 @@ IsRaisedSlot extra a b = a ≡ raised_slot extra b
 
 written_slot_raised : (extra : ℕ) (size : Size) (slot : StackSlot) (at : ℕ) (kind : Kind) → IsResultBelow (IsRaisedSlot extra) (written_slot size (raised_slot extra slot) at (raised_kind extra kind)) (written_slot size slot at kind)
 written_slot_raised extra DoubleWord slot at kind = refl
-written_slot_raised extra Byte slot at (Scalar range) = ap (λ n. Bytes (bit_or n (places at Byte))) (raised_bytes extra slot)
-written_slot_raised extra HalfWord slot at (Scalar range) = ap (λ n. Bytes (bit_or n (places at HalfWord))) (raised_bytes extra slot)
-written_slot_raised extra Word slot at (Scalar range) = ap (λ n. Bytes (bit_or n (places at Word))) (raised_bytes extra slot)
+written_slot_raised extra Byte slot at (Scalar range) = ap (λ n. Bytes (bit_or n (mask at Byte))) (raised_bytes extra slot)
+written_slot_raised extra HalfWord slot at (Scalar range) = ap (λ n. Bytes (bit_or n (mask at HalfWord))) (raised_bytes extra slot)
+written_slot_raised extra Word slot at (Scalar range) = ap (λ n. Bytes (bit_or n (mask at Word))) (raised_bytes extra slot)
 written_slot_raised extra Byte slot at pointer = tt
 written_slot_raised extra HalfWord slot at pointer = tt
 written_slot_raised extra Word slot at pointer = tt
@@ -200,7 +200,7 @@ number_raised extra pointer = tt
 stack_store_raised : (extra : ℕ) (size : Size) (offset : ℤ) (kind : Kind) (d : Description) → IsResultBelow (IsRaised extra) (after_stack_store size offset (raised_kind extra kind) (raised_description extra d)) (after_stack_store size offset kind d)
 stack_store_raised extra size offset kind d =
     let e : Description = raised_description extra d in
-    then_same (IsRaised extra) (stack_place offset (byte_count size))
+    then_same (IsRaised extra) (stack_offset offset (byte_count size))
     (λ at. written_slot size (slot_of e (at / 8)) at (raised_kind extra kind) >>= λ slot. Ok (with_slot e (at / 8) slot))
     (λ at. written_slot size (slot_of d (at / 8)) at kind >>= λ slot. Ok (with_slot d (at / 8) slot))
     (λ at.
@@ -256,10 +256,10 @@ bytes_raised : (extra : ℕ) (d : Description) (at n : ℕ) → bytes_known (rai
 bytes_raised extra d at zero = refl
 bytes_raised extra d at (suc n) =
     let e : Description = raised_description extra d in
-    let place : ℕ = (at + n) / 8 in
-    ap (λ r. first_of r (byte_in_slot (slot_of e place) ((at + n) % 8))) (bytes_raised extra d at n)
-    ∙ ap (λ s. first_of (bytes_known d at n) (byte_in_slot s ((at + n) % 8))) (slot_of-raised extra d place)
-    ∙ ap (first_of (bytes_known d at n)) (byte_raised extra (slot_of d place) ((at + n) % 8))
+    let begin : ℕ = (at + n) / 8 in
+    ap (λ r. first_of r (byte_in_slot (slot_of e begin) ((at + n) % 8))) (bytes_raised extra d at n)
+    ∙ ap (λ s. first_of (bytes_known d at n) (byte_in_slot s ((at + n) % 8))) (slot_of-raised extra d begin)
+    ∙ ap (first_of (bytes_known d at n)) (byte_raised extra (slot_of d begin) ((at + n) % 8))
 
 argument_raised : (extra : ℕ) (p : Subject) (d : Description) (size align : ℕ) (kind : Kind) → argument p (raised_description extra d) size align (raised_kind extra kind) ≡ argument p d size align kind
 argument_raised extra p d size align (Context k) = refl
@@ -381,35 +381,35 @@ comparands_raised extra comparison width source insn d =
     subst (λ a. IsResultBelow ◌≡◌ (compared_kinds null (a, x.1)) (compared_kinds null (y.0, y.1))) (sym h.0)
     (subst (λ b. IsResultBelow ◌≡◌ (compared_kinds null (raised_kind extra y.0, b)) (compared_kinds null (y.0, y.1))) (sym h.1) (compared_raised extra null y.0 y.1)))
 
-told_raised : (extra dst : ℕ) (d : Description) (range : Option Range) → option_map (λ r. with_kind (raised_description extra d) dst (Scalar r)) range ≡ option_map (raised_description extra) (option_map (λ r. with_kind d dst (Scalar r)) range)
-told_raised extra dst d None = refl
-told_raised extra dst d (Some range) = ap Some (with_kind-raised extra d dst (Scalar range))
+learned_raised : (extra dst : ℕ) (d : Description) (range : Option Range) → option_map (λ r. with_kind (raised_description extra d) dst (Scalar r)) range ≡ option_map (raised_description extra) (option_map (λ r. with_kind d dst (Scalar r)) range)
+learned_raised extra dst d None = refl
+learned_raised extra dst d (Some range) = ap Some (with_kind-raised extra d dst (Scalar range))
 
-way_raised : (extra : ℕ) (comparison : Comparison) (width : Width) (taken : Bool) (insn : Insn) (d : Description) (x : Compared) → on_way_at extra comparison width taken insn (raised_description extra d) x ≡ option_map (raised_description extra) (on_way comparison width taken insn d x)
-way_raised extra comparison width taken insn d (Numbers a b) = told_raised extra insn.dst d (refined comparison width taken a b)
-way_raised extra comparison width true insn d (Answer m call) = ap Some (with_answer_known-raised extra call (checked_kind m (holds_of_null comparison)) d)
-way_raised extra comparison width false insn d (Answer m call) = ap Some (with_answer_known-raised extra call (checked_kind m (not (holds_of_null comparison))) d)
+successor_raised : (extra : ℕ) (comparison : Comparison) (width : Width) (taken : Bool) (insn : Insn) (d : Description) (x : Compared) → on_successor_at extra comparison width taken insn (raised_description extra d) x ≡ option_map (raised_description extra) (on_successor comparison width taken insn d x)
+successor_raised extra comparison width taken insn d (Numbers a b) = learned_raised extra insn.dst d (refined comparison width taken a b)
+successor_raised extra comparison width true insn d (Answer m call) = ap Some (with_answer_known-raised extra call (checked_kind m (holds_of_null comparison)) d)
+successor_raised extra comparison width false insn d (Answer m call) = ap Some (with_answer_known-raised extra call (checked_kind m (not (holds_of_null comparison))) d)
 
 branch_raised : (extra : ℕ) (p : Subject) (comparison : Comparison) (width : Width) (source : Source) (insn : Insn) (slot : ℕ) (d : Description) → IsResultBelow (AreRaised extra) (flow_of_branch_at extra p comparison width source insn slot (raised_description extra d)) (flow_of_branch p comparison width source insn slot d)
 branch_raised extra p comparison width source insn slot d =
     let e : Description = raised_description extra d in
     let targets : Result (ℕ × ℕ) ℕ = both (falls_to p.text slot) (jumps_to p.text slot insn.offset) in
-    let way : Bool → Compared → Option Description = λ taken compared. on_way comparison width taken insn d compared in
-    let wide : Bool → Compared → Option Description = λ taken compared. on_way_at extra comparison width taken insn e compared in
+    let successor : Bool → Compared → Option Description = λ taken compared. on_successor comparison width taken insn d compared in
+    let wide : Bool → Compared → Option Description = λ taken compared. on_successor_at extra comparison width taken insn e compared in
     let made : Compared → ℕ × ℕ → List (ℕ × Description) = λ compared to. target to.0 (wide false compared) ++ target to.1 (wide true compared) in
     then_below (AreBoth ◌≡◌ ◌≡◌) (AreRaised extra)
     (both (comparands comparison width source insn e) targets) (both (comparands comparison width source insn d) targets)
     (λ x. Ok (target x.1.0 (wide false x.0) ++ target x.1.1 (wide true x.0)))
-    (λ x. Ok (target x.1.0 (way false x.0) ++ target x.1.1 (way true x.0)))
+    (λ x. Ok (target x.1.0 (successor false x.0) ++ target x.1.1 (successor true x.0)))
     (both_below ◌≡◌ ◌≡◌ (comparands comparison width source insn e) (comparands comparison width source insn d) targets targets
     (comparands_raised extra comparison width source insn d) (result_below_self ◌≡◌ targets (λ x. refl)))
     (λ x y h.
     ap (λ compared. made compared x.1) h.0 ∙ ap (made y.0) h.1
-    ∙ ap (λ known. target y.1.0 known ++ target y.1.1 (wide true y.0)) (way_raised extra comparison width false insn d y.0)
-    ∙ ap (λ known. target y.1.0 (option_map (raised_description extra) (way false y.0)) ++ target y.1.1 known) (way_raised extra comparison width true insn d y.0)
-    ∙ ap (λ ts. ts ++ target y.1.1 (option_map (raised_description extra) (way true y.0))) (target_raised extra y.1.0 (way false y.0))
-    ∙ ap (λ ts. map (raised_target extra) (target y.1.0 (way false y.0)) ++ ts) (target_raised extra y.1.1 (way true y.0))
-    ∙ sym (map-append (raised_target extra) (target y.1.0 (way false y.0)) (target y.1.1 (way true y.0))))
+    ∙ ap (λ known. target y.1.0 known ++ target y.1.1 (wide true y.0)) (successor_raised extra comparison width false insn d y.0)
+    ∙ ap (λ known. target y.1.0 (option_map (raised_description extra) (successor false y.0)) ++ target y.1.1 known) (successor_raised extra comparison width true insn d y.0)
+    ∙ ap (λ ts. ts ++ target y.1.1 (option_map (raised_description extra) (successor true y.0))) (target_raised extra y.1.0 (successor false y.0))
+    ∙ ap (λ ts. map (raised_target extra) (target y.1.0 (successor false y.0)) ++ ts) (target_raised extra y.1.1 (successor true y.0))
+    ∙ sym (map-append (raised_target extra) (target y.1.0 (successor false y.0)) (target y.1.1 (successor true y.0))))
 
 exit_raised : (extra : ℕ) (d : Description) → IsResultBelow (AreRaised extra) (flow_of_exit (raised_description extra d)) (flow_of_exit d)
 exit_raised extra d =

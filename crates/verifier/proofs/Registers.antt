@@ -1,4 +1,4 @@
--- The registers of an instruction that meets its row of the table are R0 to R10, used or not.
+-- The registers of an instruction that fulfils its row of the table are R0 to R10, used or not.
 use Rattle.std.proofs.Common.{◌≡◌, ◌≤◌, true, Option, Some, None, IsSome, refl, arith}
 use Rattle.bpf_decode.specs.declared.insn.Insn.{Insn}
 use Rattle.bpf_decode.specs.declared.operation.Source.TheVariants.{Immediate, Register}

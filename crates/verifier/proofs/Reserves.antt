@@ -94,7 +94,7 @@ none_left slots slot h = omega arith
 pub reserve_next : (v : Accepted) (slot : ℕ) → slot < slots_of v.subject.text → reserve_from v slot ≡ cost_at v slot + reserve_from v (slot + 1)
 reserve_next v slot h = rw add-one (ap (costs_from v slot) (left_next (slots_of v.subject.text) slot h) ∙ costs_next v slot (slots_of v.subject.text - suc slot))
 
--- behind the text nothing is reserved
+-- after the text nothing is reserved
 pub reserve_end : (v : Accepted) (slot : ℕ) → slots_of v.subject.text ≤ slot → reserve_from v slot ≡ 0
 reserve_end v slot h = ap (costs_from v slot) (none_left (slots_of v.subject.text) slot h) ∙ costs_none v slot
 
@@ -105,7 +105,7 @@ reserve_small v slot = costs_small v slot (slots_of v.subject.text - slot)
 one_later : (v : Accepted) (slot : ℕ) → reserve_from v (slot + 1) ≤ reserve_from v slot
 one_later v slot = elim (cases_lt slot (slots_of v.subject.text)) [
   | inl within ↦ least (reserve_from v slot) (cost_at v slot) (reserve_from v (slot + 1)) (reserve_next v slot within)
-  | inr past ↦ none (reserve_from v slot) (reserve_from v (slot + 1)) (reserve_end v (slot + 1) (behind (slots_of v.subject.text) slot past))
+  | inr past ↦ none (reserve_from v slot) (reserve_from v (slot + 1)) (reserve_end v (slot + 1) (following (slots_of v.subject.text) slot past))
 ]
   where
     least : (all first rest : ℕ) → all ≡ first + rest → rest ≤ all
@@ -114,8 +114,8 @@ one_later v slot = elim (cases_lt slot (slots_of v.subject.text)) [
     none : (all rest : ℕ) → rest ≡ 0 → rest ≤ all
     none all rest e = omega arith
 
-    behind : (slots slot : ℕ) → slots ≤ slot → slots ≤ slot + 1
-    behind slots slot h = omega arith
+    following : (slots slot : ℕ) → slots ≤ slot → slots ≤ slot + 1
+    following slots slot h = omega arith
 
 -- no later slot has a greater reserve
 pub reserve_later : (v : Accepted) (slot n : ℕ) → reserve_from v (slot + n) ≤ reserve_from v slot
@@ -173,13 +173,13 @@ reserve_before v slot reserve cost some within is costs =
 -- at the end all that is kept is 0
 pub reserves_none : (v : Accepted) (reserves : List ℕ) (slots : ℕ) → slots ≡ slots_of v.subject.text → length reserves ≡ slots → (s : ℕ) → slots ≤ s → get_or reserves s 0 ≡ reserve_from v s
 reserves_none v reserves slots is whole s h =
-    get_or_past reserves s 0 (past (length reserves) slots s whole h) ∙ sym (reserve_end v s (behind slots (slots_of v.subject.text) s is h))
+    get_or_past reserves s 0 (past (length reserves) slots s whole h) ∙ sym (reserve_end v s (following slots (slots_of v.subject.text) s is h))
   where
     past : (n slots s : ℕ) → n ≡ slots → slots ≤ s → n ≤ s
     past n slots s e h = omega arith
 
-    behind : (n slots s : ℕ) → n ≡ slots → n ≤ s → slots ≤ s
-    behind n slots s e h = omega arith
+    following : (n slots s : ℕ) → n ≡ slots → n ≤ s → slots ≤ s
+    following n slots s e h = omega arith
 
 -- one slot more is kept
 pub reserves_set : (v : Accepted) (reserves : List ℕ) (slot sum : ℕ) → 0 < slot → slot ≤ length reserves → sum ≡ reserve_from v (slot - 1) → ((s : ℕ) → slot ≤ s → get_or reserves s 0 ≡ reserve_from v s) → (s : ℕ) → slot - 1 ≤ s → get_or (set reserves (slot - 1) sum) s 0 ≡ reserve_from v s

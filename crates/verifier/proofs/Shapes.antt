@@ -29,13 +29,13 @@ value_size_small p m h = small (shape_at p.shapes m) (shape_is_shape p.shapes m 
     small None h = omega arith
     small (Some shape) h = h.small
 
--- shapes within the limits are so with the numbers behind them
+-- shapes within the limits are so with the numbers after them
 pub padded_shapes : (shapes : List (Option Shape)) → AreShapes shapes → HasShapes (padded shapes)
 padded_shapes shapes a = record {
   eight = let few = a.few in simp (length-append, length-replicate) (omega arith);
   each = All-append (λ shape. IfSome shape IsShape) _ _ a.each (all_none (8 - length shapes));
 }
 
--- a list that is written over the first of eight empty places
+-- a list that is written over the first of eight empty elements
 pub written_over : (shapes : List (Option Shape)) → shapes ++ drop (length shapes) (replicate 8 None) ≡ padded shapes
 written_over shapes = ap (λ none. shapes ++ none) (drop-replicate (length shapes) 8 None)

@@ -1,4 +1,4 @@
--- A program that is judged without maps has none where it is accepted.
+-- A program that is verified without maps has none where it is accepted.
 use Rattle.std.proofs.Common.{◌≡◌, [], ◌∙◌, ap, Result, Ok, Err, IfOk}
 use Rattle.host_types.specs.declared.fault.Refused.{Refused}
 use Rattle.verifier.specs.Subject.{Subject, padded}

@@ -129,9 +129,9 @@ lasts_more v n lasts more map is are noted = record {
         by_case true e = or-true (writes_within v slot (n - slot) m) ∙ sym (ap (nat_lt slot) (now m k true e) ∙ less_yes slot (n + 1) (omega (arith, h)))
         by_case false e = or-false (writes_within v slot (n - slot) m) ∙ are.each m slot k h ∙ sym (ap (nat_lt slot) (now m k false e))
 
--- what is kept tells of each slot, also of one behind the text
-pub last_tells : (v : Accepted) (lasts : List ℕ) (m slot : ℕ) → AreLastWrites v (slots_of v.subject.text) lasts → m < 8 → writes_from v slot m ≡ nat_lt slot (get_or lasts m 0)
-last_tells v lasts m slot are k = elim (cases_lt slot (slots_of v.subject.text)) [
+-- what is kept says of each slot, also of one after the text
+pub last_learns : (v : Accepted) (lasts : List ℕ) (m slot : ℕ) → AreLastWrites v (slots_of v.subject.text) lasts → m < 8 → writes_from v slot m ≡ nat_lt slot (get_or lasts m 0)
+last_learns v lasts m slot are k = elim (cases_lt slot (slots_of v.subject.text)) [
   | inl within ↦ are.each m slot k (omega (arith, within))
   | inr past ↦
       let none : slots_of v.subject.text - slot ≡ 0 = omega (arith, past) in

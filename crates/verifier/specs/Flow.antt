@@ -54,7 +54,7 @@ both (Ok x) (Err n) = Err n
 both (Err m) (Ok y) = Err m
 both (Err m) (Err n) = Err (if nat_lt n m then n else m)
 
--- the same of questions that tell nothing but whether a rule is broken
+-- the same of questions that say nothing but whether a rule is broken
 abbrev pub first_of : Result (Unit {0}) ℕ → Result (Unit {0}) ℕ → Result (Unit {0}) ℕ
 first_of a b = both a b >>= λ x. Ok tt
 
@@ -101,22 +101,22 @@ computed_kind code width source insn d =
 unfoldable pub after_alu : AluCode → Width → Source → Insn → Description → Result Description ℕ
 after_alu code width source insn d = write_kind d insn.dst (computed_kind code width source insn d)
 
--- the place of `size` bytes that lie whole between 0 and an end
+-- the offset of `size` bytes that lie whole between 0 and an end
 abbrev pub lies_below : ℤ → ℕ → ℕ → ℕ → Result ℕ ℕ
 lies_below (pos at) size end rule = if nat_le (at + size) end then Ok at else Err rule
 lies_below (negsuc n) size end rule = Err rule
 
--- the place of an access that is aligned to its size
+-- the location of an access that is aligned to its size
 abbrev pub aligned : ℕ → ℕ → Result ℕ ℕ
 aligned at size = if at % size == 0 then Ok at else Err misaligned
 
--- the place in the context of an access at an offset from its beginning
-abbrev pub context_place : ℕ → ℤ → ℕ → Result ℕ ℕ
-context_place context_size offset size = lies_below offset size context_size outside_context >>= λ at. aligned at size
+-- the location in the context of an access at an offset from its beginning
+abbrev pub context_offset : ℕ → ℤ → ℕ → Result ℕ ℕ
+context_offset context_size offset size = lies_below offset size context_size outside_context >>= λ at. aligned at size
 
--- the place in the stack of an access at an offset from its end
-abbrev pub stack_place : ℤ → ℕ → Result ℕ ℕ
-stack_place offset size = lies_below (offset +ℤ pos stack_size) size stack_size outside_stack >>= λ at. aligned at size
+-- the location in the stack of an access at an offset from its end
+abbrev pub stack_offset : ℤ → ℕ → Result ℕ ℕ
+stack_offset offset size = lies_below (offset +ℤ pos stack_size) size stack_size outside_stack >>= λ at. aligned at size
 
 -- the numbers that are loaded: with sign extension they are all numbers
 abbrev pub loaded_range : Size → Extension → Range
@@ -127,8 +127,8 @@ loaded_range DoubleWord Zero = full One
 loaded_range size Sign = full One
 
 -- the bytes of an access in a slot of the stack, by the bits of a number
-abbrev pub places : ℕ → Size → ℕ
-places at size = (2 ^ byte_count size - 1) * 2 ^ (at % 8)
+abbrev pub mask : ℕ → Size → ℕ
+mask at size = (2 ^ byte_count size - 1) * 2 ^ (at % 8)
 
 -- what is known of bytes of a slot that are loaded: a double word that is kept, or a number; the bytes of
 -- a kept pointer aren't read one by one
@@ -137,7 +137,7 @@ slot_kind DoubleWord extension (Kept kind) at = Ok kind
 slot_kind size extension (Kept (Scalar range)) at = Ok (Scalar (loaded_range size extension))
 slot_kind size extension (Kept pointer) at = Err pointer_leaks
 slot_kind size extension (Bytes set) at =
-    if bit_and set (places at size) == places at size then Ok (Scalar (loaded_range size extension)) else Err unset_stack
+    if bit_and set (mask at size) == mask at size then Ok (Scalar (loaded_range size extension)) else Err unset_stack
 
 -- the bytes of a value of the map m; a map that isn't there has none
 abbrev pub value_size_of : Subject → ℕ → ℕ
@@ -171,9 +171,9 @@ value_access value_size offsets by size =
 -- what is known of a number that is loaded through a base
 abbrev pub load_kind : Subject → Size → Extension → Insn → Description → Kind → Result Kind ℕ
 load_kind p size extension insn d (Context k) =
-    context_place p.context_size (k +ℤ insn.offset) (byte_count size) >>= λ at. Ok (Scalar (loaded_range size extension))
+    context_offset p.context_size (k +ℤ insn.offset) (byte_count size) >>= λ at. Ok (Scalar (loaded_range size extension))
 load_kind p size extension insn d (Stack k) =
-    stack_place (k +ℤ insn.offset) (byte_count size) >>= λ at. slot_kind size extension (slot_of d (at / 8)) at
+    stack_offset (k +ℤ insn.offset) (byte_count size) >>= λ at. slot_kind size extension (slot_of d (at / 8)) at
 load_kind p size extension insn d (MapValue m offsets) =
     value_access (value_size_of p m) offsets insn.offset (byte_count size) >>= λ within. Ok (Scalar (loaded_range size extension))
 load_kind p size extension insn d (MaybeValue m call) = Err null_not_checked
@@ -193,7 +193,7 @@ abbrev pub name_kind : Subject → ℤ → Result Kind ℕ
 name_kind p (pos m) = holds_or (is_some (shape_at p.shapes m)) unknown_map >>= λ there. Ok (MapName m)
 name_kind p (negsuc n) = Err unknown_map
 
--- the one offset of a pointer that is so many bytes behind the beginning of an element
+-- the one offset of a pointer that is so many bytes after the beginning of an element
 abbrev pub at_offset : ℕ → Offsets
 at_offset n = offsets_in (constant (65536 + n))
 
@@ -219,7 +219,7 @@ after_load_immediate p insn d = write_kind d insn.dst (wide_kind p insn)
 -- alone
 abbrev pub written_slot : Size → StackSlot → ℕ → Kind → Result StackSlot ℕ
 written_slot DoubleWord slot at kind = Ok (Kept kind)
-written_slot size slot at (Scalar range) = Ok (Bytes (bit_or (number_bytes slot) (places at size)))
+written_slot size slot at (Scalar range) = Ok (Bytes (bit_or (number_bytes slot) (mask at size)))
 written_slot size slot at pointer = Err pointer_leaks
 
 -- no pointer is given away: not to a map, and not as what the program returns
@@ -230,7 +230,7 @@ is_number pointer = Err pointer_leaks
 -- what is known after a store to the stack at an offset from its end
 abbrev pub after_stack_store : Size → ℤ → Kind → Description → Result Description ℕ
 after_stack_store size offset kind d = do
-  at ← stack_place offset (byte_count size)
+  at ← stack_offset offset (byte_count size)
   slot ← written_slot size (slot_of d (at / 8)) at kind
   Ok (with_slot d (at / 8) slot)
 
@@ -254,7 +254,7 @@ after_store p size source insn d =
 abbrev pub falls_to : List ℕ → ℕ → Result ℕ ℕ
 falls_to text slot = let to = slot + width_at text slot in if nat_lt to (slots_of text) then Ok to else Err falls_off
 
--- a slot to which an instruction may jump: one behind it, at which an instruction begins
+-- a slot to which an instruction may jump: one after it, at which an instruction begins
 abbrev pub lands_on : List ℕ → ℕ → ℤ → Result ℕ ℕ
 lands_on text slot (negsuc n) = Err back_jump
 lands_on text slot (pos to) =
@@ -270,7 +270,7 @@ abbrev pub target : ℕ → Option Description → List (ℕ × Description)
 target to None = []
 target to (Some d) = (to, d) ∷ []
 
--- a comparison that tells whether a lookup's answer is 0
+-- a comparison that says whether a lookup's answer is 0
 abbrev pub is_null_check : Comparison → Width → Source → Insn → Bool
 is_null_check Equal Bits64 Immediate insn = is insn.imm 0
 is_null_check NotEqual Bits64 Immediate insn = is insn.imm 0
@@ -302,19 +302,19 @@ abbrev pub checked_kind : ℕ → Bool → Kind
 checked_kind m true = Scalar (constant 0)
 checked_kind m false = MapValue m beginning
 
--- What is known on one way of a conditional jump: a comparison of numbers tells of dst alone, and one of
+-- What is known on one way of a conditional jump: a comparison of numbers says of dst alone, and one of
 -- a lookup's answer with 0 of all that keep this answer.
-abbrev pub on_way : Comparison → Width → Bool → Insn → Description → Compared → Option Description
-on_way comparison width taken insn d (Numbers a b) =
+abbrev pub on_successor : Comparison → Width → Bool → Insn → Description → Compared → Option Description
+on_successor comparison width taken insn d (Numbers a b) =
     option_map (λ range. with_kind d insn.dst (Scalar range)) (refined comparison width taken a b)
-on_way comparison width true insn d (Answer m call) = Some (with_answer_known call (checked_kind m (holds_of_null comparison)) d)
-on_way comparison width false insn d (Answer m call) = Some (with_answer_known call (checked_kind m (not (holds_of_null comparison))) d)
+on_successor comparison width true insn d (Answer m call) = Some (with_answer_known call (checked_kind m (holds_of_null comparison)) d)
+on_successor comparison width false insn d (Answer m call) = Some (with_answer_known call (checked_kind m (not (holds_of_null comparison))) d)
 
--- Where a conditional jump leads. Both targets are judged, also where nothing goes one way.
+-- Where a conditional jump leads. Both targets are verified, also where nothing goes one way.
 abbrev pub flow_of_branch : Subject → Comparison → Width → Source → Insn → ℕ → Description → Result (List (ℕ × Description)) ℕ
 flow_of_branch p comparison width source insn slot d = do
   x ← both (comparands comparison width source insn d) (both (falls_to p.text slot) (jumps_to p.text slot insn.offset))
-  Ok (target x.1.0 (on_way comparison width false insn d x.0) ++ target x.1.1 (on_way comparison width true insn d x.0))
+  Ok (target x.1.0 (on_successor comparison width false insn d x.0) ++ target x.1.1 (on_successor comparison width true insn d x.0))
 
 -- where a jump leads that is always taken
 abbrev pub flow_of_jump : Subject → Distance → Insn → ℕ → Description → Result (List (ℕ × Description)) ℕ
@@ -326,7 +326,7 @@ byte_in_slot (Kept (Scalar range)) i = Ok tt
 byte_in_slot (Kept pointer) i = Err pointer_leaks
 byte_in_slot (Bytes set) i = holds_or (bit_and set (2 ^ i) == 2 ^ i) unset_stack
 
--- so are the bytes of the stack from a place on
+-- so are the bytes of the stack from an offset on
 abbrev pub bytes_known : Description → ℕ → ℕ → Result (Unit {0}) ℕ
 bytes_known d at zero = Ok tt
 bytes_known d at (suc n) = first_of (bytes_known d at n) (byte_in_slot (slot_of d ((at + n) / 8)) ((at + n) % 8))
@@ -335,7 +335,7 @@ bytes_known d at (suc n) = first_of (bytes_known d at n) (byte_in_slot (slot_of 
 -- those of the stack are known to hold numbers.
 abbrev pub argument : Subject → Description → ℕ → ℕ → Kind → Result (Unit {0}) ℕ
 argument p d size align (Context k) =
-    lies_below k size p.context_size outside_context >>= λ at. aligned at align >>= λ place. Ok tt
+    lies_below k size p.context_size outside_context >>= λ at. aligned at align >>= λ begin. Ok tt
 argument p d size align (Stack k) =
     lies_below (k +ℤ pos stack_size) size stack_size outside_stack >>= λ at. both (aligned at align) (bytes_known d at size) >>= λ known. Ok tt
 argument p d size align (MaybeValue m call) = Err null_not_checked
@@ -377,7 +377,7 @@ value_argument p d (Err rule) = read_kind d 3 >>= points
 abbrev pub flags_argument : Description → Result (Unit {0}) ℕ
 flags_argument d = read_kind d 4 >>= flags_in
 
--- the arguments behind the key, which an update has alone
+-- the arguments after the key, which an update has alone
 abbrev pub update_arguments : Subject → MapHelper → Description → Result (Unit {0}) ℕ
 update_arguments p Update d = first_of (value_argument p d (named_map d)) (flags_argument d)
 update_arguments p other d = Ok tt

@@ -43,7 +43,7 @@ Contains contains slot d = contains slot d ≡ true
 abbrev pub AreContained : (ℕ → Description → Bool) → List (ℕ × Description) → Type 0
 AreContained contains targets = All (λ t. Contains contains t.0 t.1) targets
 
--- A reading of a text tells which descriptions it contains at each slot, whatever else it may know there: the
+-- A reading of a text says which descriptions it contains at each slot, whatever else it may know there: the
 -- start's at slot 0, with any two their join, and what flows on from each, which breaks no rule.
 pub record IsReading (p : Subject) (contains : ℕ → Description → Bool) : Type 0 where
   pub start : Contains contains 0 start_description
@@ -58,7 +58,7 @@ RefusalLeavesNoReading = (p : Subject) (refused : Refused) (contains : ℕ → D
 abbrev pub ReserveCoversStep : Type 0
 ReserveCoversStep = (v : Accepted) (slot later : ℕ) → slot < later → slot < slots_of v.subject.text → cost_at v slot + reserve_from v later ≤ reserve_from v slot
 
--- behind the text nothing is reserved
+-- after the text nothing is reserved
 abbrev pub ReserveEndsAtNone : Type 0
 ReserveEndsAtNone = (v : Accepted) (slot : ℕ) → slots_of v.subject.text ≤ slot → reserve_from v slot ≡ 0
 

@@ -1,7 +1,7 @@
 pub mod Subject
 pub mod Named
 pub mod Flow
-pub mod Way
+pub mod Successor
 pub mod Table
 pub mod Wide
 pub mod Verified

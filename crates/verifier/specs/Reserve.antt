@@ -50,7 +50,7 @@ costs_from v slot (suc n) = cost_at v slot + costs_from v (suc slot) n
 abbrev pub reserve_from : Accepted → ℕ → ℕ
 reserve_from v slot = costs_from v slot (slots_of v.subject.text - slot)
 
--- what is kept for the slots of a program is their reserves, and behind the text 0
+-- what is kept for the slots of a program is their reserves, and after the text 0
 abbrev pub AreReserves : Accepted → List ℕ → Type 0
 AreReserves v reserves = (slot : ℕ) → slice_index_or reserves slot 0 ≡ reserve_from v slot
 

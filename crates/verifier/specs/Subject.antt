@@ -9,7 +9,7 @@ pub record Subject : Type 0 where
   pub shapes : List (Option Shape)
   pub context_size : ℕ
 
--- The shapes of a list by number: there are eight numbers, and behind the list none has a shape.
+-- The shapes of a list by number: there are eight numbers, and after the list none has a shape.
 abbrev pub padded : List (Option Shape) → List (Option Shape)
 padded shapes = shapes ++ replicate (8 - length shapes) None
 

@@ -8,7 +8,7 @@ use Rattle.verifier_kinds.specs.Descriptions.{register_of}
 use Rattle.verifier.specs.Subject.{Subject, IsContextSize}
 use Rattle.verifier.specs.Table.{Table, described, IsTightTable, IsLawful}
 
--- eight places for maps, each of a shape within the limits or not there (this project's own limit)
+-- eight entries for maps, each of a shape within the limits or not there (this project's own limit)
 pub record HasShapes (shapes : List (Option Shape)) : Type 0 where
   pub eight : length shapes ≡ 8
   pub each : All (λ shape. IfSome shape IsShape) shapes

@@ -23,7 +23,7 @@ use Rattle.verifier_kinds.specs.Wide.{raised_kind, raised_description, arith_by_
 use Rattle.verifier.specs.declared.jumps.Compared.{Compared}
 use Rattle.verifier.specs.declared.jumps.Compared.TheVariants.{Numbers, Answer}
 use Rattle.verifier.specs.Subject.{Subject}
-use Rattle.verifier.specs.Flow.{◌>>=◌, both, holds_or, known_or, read_kind, write_kind, operand_kind, dst_is_known, loaded_range, value_size_of, is_aligned_in_value, load_kind, wide_kind, is_number, stored, falls_to, jumps_to, target, comparands, holds_of_null, checked_kind, on_way, falls_on, flow_by}
+use Rattle.verifier.specs.Flow.{◌>>=◌, both, holds_or, known_or, read_kind, write_kind, operand_kind, dst_is_known, loaded_range, value_size_of, is_aligned_in_value, load_kind, wide_kind, is_number, stored, falls_to, jumps_to, target, comparands, holds_of_null, checked_kind, on_successor, falls_on, flow_by}
 use Rattle.verifier.specs.Table.{Table, described, IsContained}
 
 -- the kind that arithmetic leaves in dst
@@ -82,16 +82,16 @@ after_store_at extra p size source insn d =
     both (read_kind d insn.dst) (operand_kind Bits64 source insn d) >>= λ x. stored_at extra p size insn d x.0 x.1
 
 -- what is known on one way of a conditional jump
-abbrev pub on_way_at : ℕ → Comparison → Width → Bool → Insn → Description → Compared → Option Description
-on_way_at extra comparison width taken insn d (Numbers a b) = on_way comparison width taken insn d (Numbers a b)
-on_way_at extra comparison width true insn d (Answer m call) = Some (with_answer_known call (raised_kind extra (checked_kind m (holds_of_null comparison))) d)
-on_way_at extra comparison width false insn d (Answer m call) = Some (with_answer_known call (raised_kind extra (checked_kind m (not (holds_of_null comparison)))) d)
+abbrev pub on_successor_at : ℕ → Comparison → Width → Bool → Insn → Description → Compared → Option Description
+on_successor_at extra comparison width taken insn d (Numbers a b) = on_successor comparison width taken insn d (Numbers a b)
+on_successor_at extra comparison width true insn d (Answer m call) = Some (with_answer_known call (raised_kind extra (checked_kind m (holds_of_null comparison))) d)
+on_successor_at extra comparison width false insn d (Answer m call) = Some (with_answer_known call (raised_kind extra (checked_kind m (not (holds_of_null comparison)))) d)
 
 -- where a conditional jump leads
 abbrev pub flow_of_branch_at : ℕ → Subject → Comparison → Width → Source → Insn → ℕ → Description → Result (List (ℕ × Description)) ℕ
 flow_of_branch_at extra p comparison width source insn slot d = do
   x ← both (comparands comparison width source insn d) (both (falls_to p.text slot) (jumps_to p.text slot insn.offset))
-  Ok (target x.1.0 (on_way_at extra comparison width false insn d x.0) ++ target x.1.1 (on_way_at extra comparison width true insn d x.0))
+  Ok (target x.1.0 (on_successor_at extra comparison width false insn d x.0) ++ target x.1.1 (on_successor_at extra comparison width true insn d x.0))
 
 -- where an operation leads and what is known there
 unfoldable pub flow_by_at : ℕ → Subject → Operation → ℕ → Description → Result (List (ℕ × Description)) ℕ

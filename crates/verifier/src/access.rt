@@ -4,8 +4,8 @@ ghost use Rattle.std.specs.Prelude.{◌≡◌, ◌+◌, ◌-◌, ◌%◌, ◌^�
 ghost use Rattle.bpf_decode.specs.Opcodes.{byte_count};
 ghost use Rattle.verifier_kinds.specs.Kinds.{AreOffsets, IsKind, IsNormal};
 ghost use Rattle.verifier_kinds.specs.Descriptions.{IsDescription, IsSlot, number_bytes};
-ghost use Rattle.verifier.specs.Flow.{lies_below, aligned, context_place, stack_place, begins_in_value, ends_in_value, lies_in_value, is_aligned_in_value, value_access, loaded_range, places, slot_kind, load_kind, loaded_kind, after_load, name_kind, at_offset, first_value_kind, wide_kind, after_load_immediate, is_number, written_slot, after_stack_store, stored, after_store};
-ghost use Rattle.verifier.specs.Way.{done};
+ghost use Rattle.verifier.specs.Flow.{lies_below, aligned, context_offset, stack_offset, begins_in_value, ends_in_value, lies_in_value, is_aligned_in_value, value_access, loaded_range, mask, slot_kind, load_kind, loaded_kind, after_load, name_kind, at_offset, first_value_kind, wide_kind, after_load_immediate, is_number, written_slot, after_stack_store, stored, after_store};
+ghost use Rattle.verifier.specs.Successor.{done};
 
 use crate::candidate::Candidate;
 use crate::rules::{both, operand_kind, read_kind, write_kind};
@@ -20,22 +20,22 @@ use verifier_kinds::{Align, Description, Kind, Offsets, Range, StackSlot};
 /// The bytes of a slot of the stack.
 pub(crate) const SLOT_SIZE: u64 = 8;
 
-/// The place of `size` bytes that lie whole between 0 and an end.
+/// The offset of `size` bytes that lie whole between 0 and an end.
 pub(crate) fn lies_below(at: i64, size: u64, end: u64, rule: u32) -> Result<u64, u32>
     requires { size ≤ 4096 }
-    ensures place { result ≡ lies_below at size end rule }
-    ensures within { IfOk result (λ place. place + size ≤ end) }
+    ensures begin { result ≡ lies_below at size end rule }
+    ensures within { IfOk result (λ begin. begin + size ≤ end) }
 {
     match u64::try_from(at) {
-        Ok(place) if place + size <= end => Ok(place),
+        Ok(begin) if begin + size <= end => Ok(begin),
         _ => Err(rule),
     }
 }
 
-/// The place of an access that is aligned to its size.
+/// The location of an access that is aligned to its size.
 pub(crate) fn aligned(at: u64, size: u64) -> Result<u64, u32>
     requires { 0 < size }
-    ensures place { result ≡ aligned at size }
+    ensures begin { result ≡ aligned at size }
     ensures aligned { IfOk result (λ at. at % size ≡ 0) }
 {
     if at % size == 0 {
@@ -45,22 +45,22 @@ pub(crate) fn aligned(at: u64, size: u64) -> Result<u64, u32>
     }
 }
 
-/// The place in the context of an access at an offset from its beginning.
-fn context_place(ctx_size: u32, offset: i64, size: u64) -> Result<u64, u32>
+/// The location in the context of an access at an offset from its beginning.
+fn context_offset(ctx_size: u32, offset: i64, size: u64) -> Result<u64, u32>
     requires some { 0 < size }
     requires word { size ≤ 8 }
-    ensures { result ≡ context_place ctx_size offset size }
+    ensures { result ≡ context_offset ctx_size offset size }
 {
     let at = lies_below(offset, size, u64::from(ctx_size), OUTSIDE_CONTEXT)?;
     aligned(at, size)
 }
 
-/// The place in the stack of an access at an offset from its end.
-fn stack_place(offset: i64, size: u64) -> Result<u64, u32>
+/// The location in the stack of an access at an offset from its end.
+fn stack_offset(offset: i64, size: u64) -> Result<u64, u32>
     requires near { offset ≤ℤ pos 4294967296 }
     requires some { 0 < size }
     requires word { size ≤ 8 }
-    ensures place { result ≡ stack_place offset size }
+    ensures begin { result ≡ stack_offset offset size }
     ensures within { IfOk result (λ at. at < 512) }
     ensures aligned { IfOk result (λ at. at % size ≡ 0) }
 {
@@ -170,10 +170,10 @@ const fn low_bits(size: Size) -> u8
 }
 
 /// The bytes of an access in a slot of the stack, by the bits of a number.
-#[tactic(auto, using(crate::proofs::Places::places_fit))]
-fn places(at: u64, size: Size) -> u8
+#[tactic(auto, using(crate::proofs::Mask::mask_fit))]
+fn mask(at: u64, size: Size) -> u8
     requires { at % byte_count size ≡ 0 }
-    ensures { result ≡ places at size }
+    ensures { result ≡ mask at size }
 {
     low_bits(size) << (at % SLOT_SIZE)
 }
@@ -184,14 +184,14 @@ fn slot_kind(size: Size, extension: Extension, slot: StackSlot, at: u64) -> Resu
     requires slot { IsSlot slot }
     requires aligned { at % byte_count size ≡ 0 }
     ensures kind { result ≡ slot_kind size extension slot at }
-    ensures meets { IfOk result IsKind }
+    ensures fulfils { IfOk result IsKind }
 {
     match (size, slot) {
         (Size::DoubleWord, StackSlot::Kept(kind)) => Ok(kind),
         (_, StackSlot::Kept(Kind::Scalar(_))) => Ok(Kind::Scalar(loaded_range(size, extension))),
         (_, StackSlot::Kept(_)) => Err(POINTER_LEAKS),
         (_, StackSlot::Bytes(set)) => {
-            let asked = places(at, size);
+            let asked = mask(at, size);
             if set & asked == asked {
                 Ok(Kind::Scalar(loaded_range(size, extension)))
             } else {
@@ -212,16 +212,16 @@ fn load_kind(
 ) -> Result<Kind, u32>
     requires description { IsDescription d.now }
     ensures kind { result ≡ load_kind candidate.now size extension insn.now d.now base }
-    ensures meets { IfOk result IsKind }
+    ensures fulfils { IfOk result IsKind }
 {
     let bytes = u64::from(size.bytes());
     match base {
         Kind::Context(k) => {
-            context_place(candidate.ctx_size(), displaced(k, insn.offset), bytes)?;
+            context_offset(candidate.ctx_size(), displaced(k, insn.offset), bytes)?;
             Ok(Kind::Scalar(loaded_range(size, extension)))
         }
         Kind::Stack(k) => {
-            let at = stack_place(displaced(k, insn.offset), bytes)?;
+            let at = stack_offset(displaced(k, insn.offset), bytes)?;
             slot_kind(size, extension, d.slot((at / SLOT_SIZE) as usize), at)
         }
         Kind::MapValue { map, offsets } => {
@@ -244,7 +244,7 @@ fn loaded_kind(
     requires src { insn.now.src ≤ 10 }
     requires description { IsDescription d.now }
     ensures kind { result ≡ loaded_kind candidate.now size extension insn.now d.now }
-    ensures meets { IfOk result IsKind }
+    ensures fulfils { IfOk result IsKind }
 {
     let base = read_kind(d, insn.src)?;
     load_kind(candidate, size, extension, insn, d, base)
@@ -263,7 +263,7 @@ pub(crate) fn after_load(
     requires src { insn.now.src ≤ 10 }
     requires description { IsDescription d.old }
     ensures description { done result d.new ≡ after_load candidate.now size extension insn.now d.old }
-    ensures meets { OnOk result (IsDescription d.new) }
+    ensures fulfils { OnOk result (IsDescription d.new) }
 {
     let kind = loaded_kind(candidate, size, extension, insn, d);
     write_kind(d, insn.dst, kind)
@@ -272,7 +272,7 @@ pub(crate) fn after_load(
 /// The name of a map that the program may use.
 fn name_kind(candidate: &Candidate, number: i32) -> Result<Kind, u32>
     ensures kind { result ≡ name_kind candidate.now number }
-    ensures meets { IfOk result IsKind }
+    ensures fulfils { IfOk result IsKind }
 {
     match u32::try_from(number) {
         Ok(map) if candidate.has_map(map) => Ok(Kind::MapName(map)),
@@ -280,11 +280,11 @@ fn name_kind(candidate: &Candidate, number: i32) -> Result<Kind, u32>
     }
 }
 
-/// The one offset of a pointer that is so many bytes behind the beginning of an element.
+/// The one offset of a pointer that is so many bytes after the beginning of an element.
 fn at_offset(n: u32) -> Offsets
     requires { n ≤ 4096 }
     ensures offset { result ≡ at_offset n }
-    ensures meets { AreOffsets result }
+    ensures fulfils { AreOffsets result }
 {
     let range = Range::constant(OFFSET_BASE as u64 + u64::from(n));
     Offsets {
@@ -298,7 +298,7 @@ fn at_offset(n: u32) -> Offsets
 /// first element, so that nothing is left to test.
 fn first_value_kind(candidate: &Candidate, number: i32, offset: u32) -> Result<Kind, u32>
     ensures kind { result ≡ first_value_kind candidate.now number offset }
-    ensures meets { IfOk result IsKind }
+    ensures fulfils { IfOk result IsKind }
 {
     match u32::try_from(number) {
         Ok(map) if candidate.has_map(map) => {
@@ -317,7 +317,7 @@ fn first_value_kind(candidate: &Candidate, number: i32, offset: u32) -> Result<K
 /// its first value.
 fn wide_kind(candidate: &Candidate, insn: &Insn) -> Result<Kind, u32>
     ensures kind { result ≡ wide_kind candidate.now insn.now }
-    ensures meets { IfOk result IsKind }
+    ensures fulfils { IfOk result IsKind }
 {
     match insn.src {
         0 => Ok(Kind::Scalar(Range::constant(insn.wide_immediate()))),
@@ -336,7 +336,7 @@ pub(crate) fn after_load_immediate(
     requires dst { insn.now.dst ≤ 10 }
     requires description { IsDescription d.old }
     ensures description { done result d.new ≡ after_load_immediate candidate.now insn.now d.old }
-    ensures meets { OnOk result (IsDescription d.new) }
+    ensures fulfils { OnOk result (IsDescription d.new) }
 {
     write_kind(d, insn.dst, wide_kind(candidate, insn))
 }
@@ -353,7 +353,7 @@ pub(crate) fn is_number(kind: Kind) -> Result<(), u32>
 
 /// The bytes of a slot that are known to hold numbers, by the bits of a number: of a kept pointer
 /// none.
-fn known_places(slot: StackSlot) -> u8
+fn known_mask(slot: StackSlot) -> u8
     ensures { result ≡ number_bytes slot }
 {
     match slot {
@@ -368,11 +368,11 @@ fn written_slot(size: Size, slot: StackSlot, at: u64, kind: Kind) -> Result<Stac
     requires kind { IsKind kind }
     requires aligned { at % byte_count size ≡ 0 }
     ensures slot { result ≡ written_slot size slot at kind }
-    ensures meets { IfOk result IsSlot }
+    ensures fulfils { IfOk result IsSlot }
 {
     match (size, kind) {
         (Size::DoubleWord, kind) => Ok(StackSlot::Kept(kind)),
-        (_, Kind::Scalar(_)) => Ok(StackSlot::Bytes(known_places(slot) | places(at, size))),
+        (_, Kind::Scalar(_)) => Ok(StackSlot::Bytes(known_mask(slot) | mask(at, size))),
         _ => Err(POINTER_LEAKS),
     }
 }
@@ -383,9 +383,9 @@ fn after_stack_store(size: Size, offset: i64, kind: Kind, d: &mut Description) -
     requires kind { IsKind kind }
     requires description { IsDescription d.old }
     ensures description { done result d.new ≡ after_stack_store size offset kind d.old }
-    ensures meets { OnOk result (IsDescription d.new) }
+    ensures fulfils { OnOk result (IsDescription d.new) }
 {
-    let at = stack_place(offset, u64::from(size.bytes()))?;
+    let at = stack_offset(offset, u64::from(size.bytes()))?;
     let slot = (at / SLOT_SIZE) as usize;
     let written = written_slot(size, d.slot(slot), at, kind)?;
     d.set_slot(slot, written);
@@ -405,7 +405,7 @@ fn stored(
     requires kind { IsKind kind }
     requires description { IsDescription d.old }
     ensures description { done result d.new ≡ stored candidate.now size insn.now d.old base kind }
-    ensures meets { OnOk result (IsDescription d.new) }
+    ensures fulfils { OnOk result (IsDescription d.new) }
 {
     match base {
         Kind::Stack(k) => after_stack_store(size, displaced(k, insn.offset), kind, d),
@@ -432,7 +432,7 @@ pub(crate) fn after_store(
     requires src { insn.now.src ≤ 10 }
     requires description { IsDescription d.old }
     ensures description { done result d.new ≡ after_store candidate.now size source insn.now d.old }
-    ensures meets { OnOk result (IsDescription d.new) }
+    ensures fulfils { OnOk result (IsDescription d.new) }
 {
     let operand = operand_kind(Width::Bits64, source, insn, d);
     let (base, kind) = both(read_kind(d, insn.dst), operand)?;

@@ -4,7 +4,7 @@ ghost use Rattle.std.specs.Prelude.{◌≡◌, ◌+◌, ◌≤◌, ◌<◌, IfOk
 ghost use Rattle.verifier_kinds.specs.Kinds.{IsKind};
 ghost use Rattle.verifier_kinds.specs.Descriptions.{IsDescription};
 ghost use Rattle.verifier.specs.Flow.{after_call, answer_kind, argument, byte_in_slot, bytes_known, called_map, flags_argument, flags_in, key_argument, name_in, named_map, points, update_arguments, value_argument, without_arguments};
-ghost use Rattle.verifier.specs.Way.{done};
+ghost use Rattle.verifier.specs.Successor.{done};
 
 use crate::access::{SLOT_SIZE, aligned, lies_below};
 use crate::candidate::Candidate;
@@ -40,7 +40,7 @@ fn byte_in_slot(slot: StackSlot, i: u64) -> Result<(), u32>
     }
 }
 
-/// So are the bytes of the stack from a place on.
+/// So are the bytes of the stack from an offset on.
 fn bytes_known(d: &Description, at: u64, size: u64) -> Result<(), u32>
     requires { at + size ≤ 512 }
     ensures { result ≡ bytes_known d.now at size }
@@ -154,7 +154,7 @@ fn flags_argument(d: &Description) -> Result<(), u32>
     flags_in(read_kind(d, 4)?)
 }
 
-/// The arguments behind the key, which an update has alone.
+/// The arguments after the key, which an update has alone.
 fn update_arguments(
     candidate: &Candidate,
     helper: MapHelper,
@@ -188,7 +188,7 @@ fn called_map(candidate: &Candidate, helper: MapHelper, d: &Description) -> Resu
 /// What a helper leaves in R0.
 fn answer_kind(helper: MapHelper, slot: u32, map: u32) -> Kind
     ensures kind { result ≡ answer_kind helper slot map }
-    ensures meets { IsKind result }
+    ensures fulfils { IsKind result }
 {
     match helper {
         MapHelper::Lookup => Kind::MaybeValue { map, call: slot },
@@ -199,7 +199,7 @@ fn answer_kind(helper: MapHelper, slot: u32, map: u32) -> Kind
 /// After a call nothing is known of R1 to R5.
 fn unset_arguments(d: &mut Description)
     ensures unset { d.new ≡ without_arguments d.old }
-    ensures meets { IsDescription d.old → IsDescription d.new }
+    ensures fulfils { IsDescription d.old → IsDescription d.new }
 {
     d.unset_register(1);
     d.unset_register(2);
@@ -218,7 +218,7 @@ pub(crate) fn after_call(
 ) -> Result<(), u32>
     requires description { IsDescription d.old }
     ensures description { done result d.new ≡ after_call candidate.now slot insn.now d.old }
-    ensures meets { OnOk result (IsDescription d.new) }
+    ensures fulfils { OnOk result (IsDescription d.new) }
 {
     let Some(helper) = MapHelper::of(insn.immediate()) else {
         return Err(UNKNOWN_HELPER);

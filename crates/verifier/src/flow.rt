@@ -8,15 +8,15 @@ ghost use Rattle.verifier_kinds.specs.Kinds.{IsKind};
 ghost use Rattle.verifier_kinds.specs.Descriptions.{IsDescription};
 ghost use Rattle.verifier.specs.Flow.{dst_is_known, computed_kind, after_alu, falls_on, flow_of_exit, flow};
 ghost use Rattle.verifier_kinds.specs.declared.description.Description.{Description};
-ghost use Rattle.verifier.specs.declared.way.Way.TheVariants.{Ends, Falls};
-ghost use Rattle.verifier.specs.Way.{HasDst, FallsTo, LeadsBelow, done, flow_of_way, ways_of};
+ghost use Rattle.verifier.specs.declared.successor.Successor.TheVariants.{Ends, Falls};
+ghost use Rattle.verifier.specs.Successor.{HasDst, FallsTo, LeadsBelow, done, flow_of_successor, successors_of};
 ghost use Rattle.verifier.specs.Pass.{AreDescribed, targets_in, flow_in};
 
 use crate::access::{after_load, after_load_immediate, after_store, is_number};
 use crate::calls::after_call;
 use crate::candidate::Candidate;
 use crate::rules::{both, operand_kind, read_kind, write_kind};
-use crate::way::Way;
+use crate::successor::Successor;
 use bpf_decode::{AluCode, Insn, Operation, Source, Width};
 use verifier_kinds::{Description, Kind, arith};
 
@@ -59,7 +59,7 @@ fn computed_kind(
     requires src { insn.now.src ≤ 10 }
     requires description { IsDescription d.now }
     ensures kind { result ≡ computed_kind code width source insn.now d.now }
-    ensures meets { IfOk result IsKind }
+    ensures fulfils { IfOk result IsKind }
 {
     let known = dst_is_known(code, insn, d);
     let ((), operand) = both(known, operand_kind(width, source, insn, d))?;
@@ -80,42 +80,42 @@ fn after_alu(
     requires src { insn.now.src ≤ 10 }
     requires description { IsDescription d.old }
     ensures description { done result d.new ≡ after_alu code width source insn.now d.old }
-    ensures meets { OnOk result (IsDescription d.new) }
+    ensures fulfils { OnOk result (IsDescription d.new) }
 {
     let kind = computed_kind(code, width, source, insn, d);
     write_kind(d, insn.dst, kind)
 }
 
 /// Nothing flows on from the end, where R0 is returned.
-fn returned(d: &Description) -> Result<Way, u32>
+fn returned(d: &Description) -> Result<Successor, u32>
     requires { IsDescription d.now }
-    ensures flow { flow_of_way result d.now ≡ flow_of_exit d.now }
-    ensures none { IfOk result (λ way. way ≡ Ends) }
+    ensures flow { flow_of_successor result d.now ≡ flow_of_exit d.now }
+    ensures none { IfOk result (λ successor. successor ≡ Ends) }
 {
     let kind = read_kind(d, 0)?;
     is_number(kind)?;
-    Ok(Way::Ends)
+    Ok(Successor::Ends)
 }
 
 impl Candidate {
     /// Where the instruction at a slot leads that falls through, whatever is known after it.
-    fn falls_on(&self, slot: u32, after: Result<(), u32>) -> Result<Way, u32>
+    fn falls_on(&self, slot: u32, after: Result<(), u32>) -> Result<Successor, u32>
         requires { IsInstruction self.now.text slot }
-        ensures flow { (d : Description) → flow_of_way result d ≡ falls_on self.now slot (done after d) }
-        ensures falls { IfOk result (λ way. (to : ℕ) × (way ≡ Falls to) × (to ≡ slot + width_at self.now.text slot)) }
+        ensures flow { (d : Description) → flow_of_successor result d ≡ falls_on self.now slot (done after d) }
+        ensures falls { IfOk result (λ successor. (to : ℕ) × (successor ≡ Falls to) × (to ≡ slot + width_at self.now.text slot)) }
     {
         let ((), to) = both(after, self.falls_to(slot))?;
-        Ok(Way::Falls(to))
+        Ok(Successor::Falls(to))
     }
 
-    /// Makes of a description what is known after the instruction at a slot, and tells where it leads.
+    /// Makes of a description what is known after the instruction at a slot, and says where it leads.
     /// The error is the smallest number of the rules that it breaks, 11 to 25.
     #[tactic(auto, unfolding(crate::specs::Flow::flow_by))]
-    pub(crate) fn flow_in_place(&self, slot: u32, d: &mut Description) -> Result<Way, u32>
+    pub(crate) fn flow_in_place(&self, slot: u32, d: &mut Description) -> Result<Successor, u32>
         requires instruction { IsInstruction self.now.text slot }
         requires description { IsDescription d.old }
-        ensures flow { flow_of_way result d.new ≡ flow self.now slot d.old }
-        ensures described { IfOk result (λ way. AreDescribed (ways_of way d.new)) }
+        ensures flow { flow_of_successor result d.new ≡ flow self.now slot d.old }
+        ensures described { IfOk result (λ successor. AreDescribed (successors_of successor d.new)) }
         ensures dst { IfOk result HasDst }
         ensures falls { IfOk result (FallsTo (slot + width_at self.now.text slot)) }
         ensures within { IfOk result (LeadsBelow (slots_of self.now.text)) }
@@ -151,7 +151,7 @@ impl Candidate {
         ensures described { IfOk result (λ onward. AreDescribed (targets_in onward)) }
     {
         let mut after = *d;
-        let way = self.flow_in_place(slot, &mut after)?;
-        Ok(way.onward(&after))
+        let successor = self.flow_in_place(slot, &mut after)?;
+        Ok(successor.onward(&after))
     }
 }

@@ -1,18 +1,18 @@
-//! Jumps: where they lead, and what the comparison of a conditional jump tells on each of its ways.
+//! Jumps: where they lead, and what the comparison of a conditional jump gives on each of its successors.
 
 ghost use Rattle.std.specs.Prelude.{◌≡◌, ◌+◌, ◌<◌, ◌≤◌, ℕ, IfOk};
 ghost use Rattle.bpf_decode.specs.Text.{slots_of, width_at, IsInstruction};
 ghost use Rattle.verifier_kinds.specs.Kinds.{IsKind, IsNormal};
 ghost use Rattle.verifier_kinds.specs.Descriptions.{IsDescription};
 ghost use Rattle.verifier_kinds.specs.declared.description.Description.{Description};
-ghost use Rattle.verifier.specs.declared.way.Way.TheVariants.{Jumps};
+ghost use Rattle.verifier.specs.declared.successor.Successor.TheVariants.{Jumps};
 ghost use Rattle.verifier.specs.Flow.{comparands, compared_kinds, flow_of_branch, flow_of_jump, holds_of_null, is_null_check};
-ghost use Rattle.verifier.specs.Way.{AreNormal, HasDst, FallsTo, LeadsBelow, flow_of_way, ways_of};
+ghost use Rattle.verifier.specs.Successor.{AreNormal, HasDst, FallsTo, LeadsBelow, flow_of_successor, successors_of};
 ghost use Rattle.verifier.specs.Pass.{AreDescribed};
 
 use crate::candidate::Candidate;
 use crate::rules::{both, operand_kind, read_kind};
-use crate::way::{Check, Fork, Way};
+use crate::successor::{Check, Fork, Successor};
 use bpf_decode::{Comparison, Distance, Insn, Source, Width};
 use host_types::rule::{NULL_NOT_CHECKED, WRONG_KIND};
 use verifier_kinds::{Description, Kind, Range, refined};
@@ -24,7 +24,7 @@ pub enum Compared {
     Answer { map: u32, call: u32 },
 }
 
-/// A comparison that tells whether a lookup's answer is 0.
+/// A comparison that says whether a lookup's answer is 0.
 fn is_null_check(comparison: Comparison, width: Width, source: Source, insn: &Insn) -> bool
     ensures { result ≡ is_null_check comparison width source insn.now }
 {
@@ -78,16 +78,16 @@ fn holds_of_null(comparison: Comparison) -> bool
 
 impl Candidate {
     /// Where a jump at a slot leads that is always taken, whatever is known there.
-    pub(crate) fn jumps(&self, distance: Distance, slot: u32, insn: &Insn) -> Result<Way, u32>
+    pub(crate) fn jumps(&self, distance: Distance, slot: u32, insn: &Insn) -> Result<Successor, u32>
         requires instruction { IsInstruction self.now.text slot }
-        ensures flow { (d : Description) → flow_of_way result d ≡ flow_of_jump self.now distance insn.now slot d }
-        ensures jumps { IfOk result (λ way. (to : ℕ) × (way ≡ Jumps to) × (to < slots_of self.now.text)) }
+        ensures flow { (d : Description) → flow_of_successor result d ≡ flow_of_jump self.now distance insn.now slot d }
+        ensures jumps { IfOk result (λ successor. (to : ℕ) × (successor ≡ Jumps to) × (to < slots_of self.now.text)) }
     {
         let to = self.jumps_to(slot, insn.distance(distance))?;
-        Ok(Way::Jumps(to))
+        Ok(Successor::Jumps(to))
     }
 
-    /// Where a conditional jump at a slot leads. Both targets are judged, also where nothing goes one
+    /// Where a conditional jump at a slot leads. Both targets are verified, also where nothing goes one
     /// way.
     pub(crate) fn branches(
         &self,
@@ -97,13 +97,13 @@ impl Candidate {
         slot: u32,
         insn: &Insn,
         d: &Description,
-    ) -> Result<Way, u32>
+    ) -> Result<Successor, u32>
         requires instruction { IsInstruction self.now.text slot }
         requires dst { insn.now.dst ≤ 10 }
         requires src { insn.now.src ≤ 10 }
         requires description { IsDescription d.now }
-        ensures flow { flow_of_way result d.now ≡ flow_of_branch self.now comparison width source insn.now slot d.now }
-        ensures described { IfOk result (λ way. AreDescribed (ways_of way d.now)) }
+        ensures flow { flow_of_successor result d.now ≡ flow_of_branch self.now comparison width source insn.now slot d.now }
+        ensures described { IfOk result (λ successor. AreDescribed (successors_of successor d.now)) }
         ensures dst { IfOk result HasDst }
         ensures falls { IfOk result (FallsTo (slot + width_at self.now.text slot)) }
         ensures within { IfOk result (LeadsBelow (slots_of self.now.text)) }
@@ -115,14 +115,14 @@ impl Candidate {
         );
         let (compared, (next, jump)) = both(compared, targets)?;
         Ok(match compared {
-            Compared::Numbers(a, b) => Way::Forks(Fork {
+            Compared::Numbers(a, b) => Successor::Forks(Fork {
                 dst: insn.dst,
                 next,
                 fallen: refined(comparison, width, false, a, b),
                 jump,
                 jumped: refined(comparison, width, true, a, b),
             }),
-            Compared::Answer { map, call } => Way::Checks(Check {
+            Compared::Answer { map, call } => Successor::Checks(Check {
                 map,
                 call,
                 next,

@@ -20,7 +20,7 @@ pub fn refusal_leaves_none()
 {}
 
 /// A step to a later slot needs no more than what the reserve falls by, so a run that is admitted with
-/// the reserve of its slot has frames for all its stores; behind the text nothing is reserved. This is
+/// the reserve of its slot has frames for all its stores; after the text nothing is reserved. This is
 /// a law about the definitions: the function does nothing.
 pub fn reserve_falls()
     ensures step { ReserveCoversStep }

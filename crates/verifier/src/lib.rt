@@ -12,10 +12,10 @@ mod laws;
 mod named;
 mod reserve;
 mod rules;
+mod successor;
 mod table;
 mod targets;
 mod verified;
-mod way;
 mod writes;
 
 pub use candidate::Candidate;

@@ -4,7 +4,7 @@ ghost use Rattle.std.specs.Prelude.{◌≡◌, ◌≤◌, IfOk, OnOk};
 ghost use Rattle.verifier_kinds.specs.Kinds.{IsKind};
 ghost use Rattle.verifier_kinds.specs.Descriptions.{IsDescription};
 ghost use Rattle.verifier.specs.Flow.{both, first_of, read_kind, writable, write_kind, immediate_kind, operand_kind};
-ghost use Rattle.verifier.specs.Way.{done};
+ghost use Rattle.verifier.specs.Successor.{done};
 
 use bpf_decode::{FRAME_POINTER, Insn, Source, Width};
 use host_types::rule::{FRAME_WRITTEN, UNSET_REGISTER};
@@ -25,7 +25,7 @@ pub(crate) fn both<A: Drop, B: Drop>(a: Result<A, u32>, b: Result<B, u32>) -> Re
     }
 }
 
-/// The same of questions that tell nothing but whether a rule is broken.
+/// The same of questions that say nothing but whether a rule is broken.
 pub(crate) fn first_of(a: Result<(), u32>, b: Result<(), u32>) -> Result<(), u32>
     ensures { result ≡ first_of a b }
 {
@@ -38,7 +38,7 @@ pub(crate) fn read_kind(d: &Description, register: u8) -> Result<Kind, u32>
     requires register { register ≤ 10 }
     requires description { IsDescription d.now }
     ensures kind { result ≡ read_kind d.now register }
-    ensures meets { IfOk result IsKind }
+    ensures fulfils { IfOk result IsKind }
 {
     match d.register(register) {
         Some(kind) => Ok(kind),
@@ -67,7 +67,7 @@ pub(crate) fn write_kind(
     requires description { IsDescription d.old }
     requires kind { IfOk kind IsKind }
     ensures description { done result d.new ≡ write_kind d.old register kind }
-    ensures meets { OnOk result (IsDescription d.new) }
+    ensures fulfils { OnOk result (IsDescription d.new) }
 {
     let (kind, ()) = both(kind, writable(register))?;
     d.set_register(register, kind);
@@ -77,7 +77,7 @@ pub(crate) fn write_kind(
 /// The kind of the number of an immediate, as a width takes it.
 fn immediate_kind(width: Width, insn: &Insn) -> Kind
     ensures kind { result ≡ immediate_kind width insn.now }
-    ensures meets { IsKind result }
+    ensures fulfils { IsKind result }
 {
     let number = match width {
         Width::Bits32 => insn.immediate() % WORD,
@@ -96,7 +96,7 @@ pub(crate) fn operand_kind(
     requires src { insn.now.src ≤ 10 }
     requires description { IsDescription d.now }
     ensures kind { result ≡ operand_kind width source insn.now d.now }
-    ensures meets { IfOk result IsKind }
+    ensures fulfils { IfOk result IsKind }
 {
     match source {
         Source::Immediate => Ok(immediate_kind(width, insn)),

@@ -6,15 +6,15 @@ ghost use Rattle.bpf_decode.specs.Text.{slots_of, IsInstruction, IsWellFormed, o
 ghost use Rattle.verifier_kinds.specs.declared.kind.Kind.{Kind};
 ghost use Rattle.verifier_kinds.specs.declared.kind.Kind.TheVariants.{Scalar};
 ghost use Rattle.verifier_kinds.specs.Descriptions.{with_kind};
-ghost use Rattle.verifier.specs.declared.way.Way.TheVariants.{Checks, Forks};
+ghost use Rattle.verifier.specs.declared.successor.Successor.TheVariants.{Checks, Forks};
 ghost use Rattle.verifier.specs.Flow.{target};
 ghost use Rattle.verifier.specs.Table.{arrived, known_with, tight_table, IsCleanBefore, IsRefusal};
 ghost use Rattle.verifier.specs.Wide.{HasNoLawful};
-ghost use Rattle.verifier.specs.Way.{HasDst, FallsTo, LeadsBelow, ways_of};
+ghost use Rattle.verifier.specs.Successor.{HasDst, FallsTo, LeadsBelow, successors_of};
 ghost use Rattle.verifier.specs.Pass.{FlowDescribed, falling, kinds_in, known_with_coming, pending_at, HasPassed};
 
 use crate::candidate::Candidate;
-use crate::way::{Check, Fork, Way};
+use crate::successor::{Check, Fork, Successor};
 use host_types::Refused;
 use std::alloc::{AllocError, Global};
 use verifier_kinds::{Description, Kind, Range};
@@ -25,7 +25,7 @@ pub(crate) type Registers = [Option<Kind>; 11];
 /// What is known at the slots to which jumps lead.
 type Pending = Vec<Option<Box<Description>>>;
 
-/// What a pass has found before a slot: the kinds of the registers at each slot behind, what is known
+/// What a pass has found before a slot: the kinds of the registers at each slot after, what is known
 /// at the slots ahead to which jumps lead, and what falls through to the next instruction, if it `falls`.
 #[derive(Drop)]
 struct Pass {
@@ -80,9 +80,9 @@ fn enter(
 
 /// Makes of a description what is known on a way of a conditional jump; the answer is whether that way
 /// may be gone.
-fn tell(d: &mut Description, dst: u8, range: Option<Range>) -> bool
+fn learn(d: &mut Description, dst: u8, range: Option<Range>) -> bool
     requires { dst ≤ 10 }
-    ensures told { falling result d.new ≡ option_map (λ range. with_kind d.old dst (Scalar range)) range }
+    ensures learned { falling result d.new ≡ option_map (λ range. with_kind d.old dst (Scalar range)) range }
     ensures same { (kind : Kind) → with_kind d.new dst kind ≡ with_kind d.old dst kind }
 {
     let Some(range) = range else {
@@ -141,13 +141,13 @@ impl Pass {
             ≡ arrived s (pending_at self.old.pending.items s) (target slot (option_map (λ range. with_kind self.old.current dst (Scalar range)) range))) }
         ensures same { (kind : Kind) → with_kind self.new.current dst kind ≡ with_kind self.old.current dst kind }
     {
-        if tell(&mut self.current, dst, range) {
+        if learn(&mut self.current, dst, range) {
             enter(alloc, &mut self.pending, slot, &self.current)?;
         }
         Ok(())
     }
 
-    /// Lets `current` flow on both ways of a conditional jump. Where both lead to one slot, what falls
+    /// Lets `current` flow on both successors of a conditional jump. Where both lead to one slot, what falls
     /// through is joined first.
     fn part(&mut self, alloc: Global, fork: Fork) -> Result<(), AllocError>
         requires dst { fork.dst ≤ 10 }
@@ -156,7 +156,7 @@ impl Pass {
         ensures kept { self.new.kept ≡ self.old.kept }
         ensures len { length self.new.pending.items ≡ length self.old.pending.items }
         ensures arrived { OnOk result ((s : ℕ) → arrived s (pending_at self.new.pending.items s) (target fork.next (falling self.new.falls self.new.current))
-            ≡ arrived s (pending_at self.old.pending.items s) (ways_of (Forks fork) self.old.current)) }
+            ≡ arrived s (pending_at self.old.pending.items s) (successors_of (Forks fork) self.old.current)) }
     {
         let Fork {
             dst,
@@ -171,12 +171,12 @@ impl Pass {
             self.falls = false;
         } else {
             self.send(alloc, jump, dst, jumped)?;
-            self.falls = tell(&mut self.current, dst, fallen);
+            self.falls = learn(&mut self.current, dst, fallen);
         }
         Ok(())
     }
 
-    /// Lets `current` flow on both ways of a conditional jump that tells whether a lookup's answer is
+    /// Lets `current` flow on both successors of a conditional jump that says whether a lookup's answer is
     /// 0. Where both lead to one slot, what falls through is joined first.
     fn part_by_answer(&mut self, alloc: Global, check: Check) -> Result<(), AllocError>
         requires next { check.next < length self.old.pending.items }
@@ -185,11 +185,11 @@ impl Pass {
         ensures kept { self.new.kept ≡ self.old.kept }
         ensures len { length self.new.pending.items ≡ length self.old.pending.items }
         ensures arrived { OnOk result ((s : ℕ) → arrived s (pending_at self.new.pending.items s) (target check.next (falling self.new.falls self.new.current))
-            ≡ arrived s (pending_at self.old.pending.items s) (ways_of (Checks check) self.old.current)) }
+            ≡ arrived s (pending_at self.old.pending.items s) (successors_of (Checks check) self.old.current)) }
     {
         let mut jumped = self.current;
-        check.tell(check.null_jumps, &mut jumped);
-        check.tell(!check.null_jumps, &mut self.current);
+        check.learn(check.null_jumps, &mut jumped);
+        check.learn(!check.null_jumps, &mut self.current);
         if check.next == check.jump {
             enter(alloc, &mut self.pending, check.next, &self.current)?;
             self.falls = false;
@@ -198,31 +198,36 @@ impl Pass {
     }
 
     /// Lets `current` flow where an instruction leads.
-    fn follow(&mut self, alloc: Global, way: Way) -> Result<(), AllocError>
-        requires dst { HasDst way }
-        requires within { LeadsBelow (length self.old.pending.items) way }
+    fn follow(&mut self, alloc: Global, successor: Successor) -> Result<(), AllocError>
+        requires dst { HasDst successor }
+        requires within { LeadsBelow (length self.old.pending.items) successor }
         requires falls { self.old.falls ≡ true }
         ensures kept { self.new.kept ≡ self.old.kept }
         ensures len { length self.new.pending.items ≡ length self.old.pending.items }
-        ensures arrived { OnOk result ((next s : ℕ) → FallsTo next way → arrived s (pending_at self.new.pending.items s) (target next (falling self.new.falls self.new.current))
-            ≡ arrived s (pending_at self.old.pending.items s) (ways_of way self.old.current)) }
+        ensures arrived { OnOk result ((next s : ℕ) → FallsTo next successor → arrived s (pending_at self.new.pending.items s) (target next (falling self.new.falls self.new.current))
+            ≡ arrived s (pending_at self.old.pending.items s) (successors_of successor self.old.current)) }
     {
-        match way {
-            Way::Ends => self.falls = false,
-            Way::Falls(_) => {}
-            Way::Jumps(to) => {
+        match successor {
+            Successor::Ends => self.falls = false,
+            Successor::Falls(_) => {}
+            Successor::Jumps(to) => {
                 enter(alloc, &mut self.pending, to, &self.current)?;
                 self.falls = false;
             }
-            Way::Forks(fork) => self.part(alloc, fork)?,
-            Way::Checks(check) => self.part_by_answer(alloc, check)?,
+            Successor::Forks(fork) => self.part(alloc, fork)?,
+            Successor::Checks(check) => self.part_by_answer(alloc, check)?,
         }
         Ok(())
     }
 
-    /// Judges the instruction at a slot by what is known there, if it is reached. The error is the
+    /// Verifies the instruction at a slot by what is known there, if it is reached. The error is the
     /// refusal of the text, or want of memory.
-    fn judge(&mut self, alloc: Global, candidate: &Candidate, slot: u32) -> Result<(), Refused>
+    fn decode_and_verify(
+        &mut self,
+        alloc: Global,
+        candidate: &Candidate,
+        slot: u32,
+    ) -> Result<(), Refused>
         requires text { IsWellFormed candidate.now.text }
         requires instruction { IsInstruction candidate.now.text slot }
         requires passed { HasPassed candidate.now self.old slot }
@@ -236,11 +241,11 @@ impl Pass {
             return Ok(());
         }
         self.keep(Some(self.current.registers))?;
-        let way = match candidate.flow_in_place(slot, &mut self.current) {
-            Ok(way) => way,
+        let successor = match candidate.flow_in_place(slot, &mut self.current) {
+            Ok(successor) => successor,
             Err(number) => return Err(Refused { number, slot }),
         };
-        let Ok(()) = self.follow(alloc, way) else {
+        let Ok(()) = self.follow(alloc, successor) else {
             return Err(Refused::OUT_OF_MEMORY);
         };
         Ok(())
@@ -270,7 +275,7 @@ impl Pass {
         ensures complete { IfErr result (λ refused. (refused ≡ out_of_memory) ⊎ HasNoLawful candidate.now) }
     {
         if candidate.begins(slot) {
-            self.judge(alloc, candidate, slot)?;
+            self.decode_and_verify(alloc, candidate, slot)?;
         } else {
             self.keep(None)?;
         }

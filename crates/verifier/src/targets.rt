@@ -13,7 +13,7 @@ impl Candidate {
     pub(crate) fn falls_to(&self, slot: u32) -> Result<u32, u32>
         requires { IsInstruction self.now.text slot }
         ensures to { result ≡ falls_to self.now.text slot }
-        ensures behind { IfOk result (λ to. to ≡ slot + width_at self.now.text slot) }
+        ensures following { IfOk result (λ to. to ≡ slot + width_at self.now.text slot) }
         ensures within { IfOk result (λ to. to < slots_of self.now.text) }
     {
         let slots = self.slots();
@@ -34,7 +34,7 @@ impl Candidate {
         self.lands_on(slot, i64::from(next) + i64::from(distance))
     }
 
-    /// A slot to which the instruction at a slot may jump: one behind it, at which an instruction
+    /// A slot to which the instruction at a slot may jump: one after it, at which an instruction
     /// begins.
     fn lands_on(&self, slot: u32, to: i64) -> Result<u32, u32>
         ensures to { result ≡ lands_on self.now.text slot to }

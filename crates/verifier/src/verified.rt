@@ -23,7 +23,7 @@ use verifier_kinds::Kind;
 
 /// An accepted program, with the shapes of the maps that it may use, the size of its context, and
 /// what is known at each of its slots. Contracts see these. Which maps it names, and what the rest of
-/// a run may need from each slot on, are kept beside them, so that they are told in constant time.
+/// a run may need from each slot on, are kept beside them, so that they are reported in constant time.
 #[derive(Drop)]
 pub struct Verified {
     candidate: Candidate,
@@ -111,7 +111,7 @@ impl Verified {
 
     /// How many frames the rest of a run may need from a slot on. Each slot from there to the end that is
     /// reached adds 1 if it stores through a pointer to a map's value, and 1 or 2 if it updates a map,
-    /// by the map's stride; behind the end it's 0.
+    /// by the map's stride; after the end it's 0.
     #[inline]
     pub fn reserve(&self, slot: u32) -> u32
         ensures { result ≡ reserve_from self.now slot }
@@ -125,7 +125,7 @@ impl Verified {
     /// Whether the rest of a run may write a map, from a slot on: by a store through a pointer to a value of
     /// the map, or by an update.
     #[inline]
-    #[tactic(auto, using(crate::proofs::Written::last_tells))]
+    #[tactic(auto, using(crate::proofs::Written::last_learns))]
     pub fn writes(&self, slot: u32, map: u32) -> bool
         requires { map < 8 }
         ensures { result ≡ writes_from self.now slot map }
@@ -150,7 +150,7 @@ impl Verified {
     }
 
     /// Whether an instruction, reached or not, names a map: it loads the map's name, or an address in
-    /// the map's first value. Of the numbers 0 to 7 it's told in constant time.
+    /// the map's first value. Of the numbers 0 to 7 it's reported in constant time.
     pub fn names(&self, map: u32) -> bool
         ensures { result ≡ names self.now.subject.text map }
     {
@@ -175,7 +175,7 @@ impl Verified {
     }
 }
 
-/// Judges a program that may use maps of these shapes, by number, and whose context has `ctx_size`
+/// Verifies a program that may use maps of these shapes, by number, and whose context has `ctx_size`
 /// bytes. A number without a shape is that of no map. The program is accepted if no slot that is reached breaks a rule. A refusal is the first slot that
 /// breaks one, with the smallest number there: 11 to 25; or 41 at slot 0 for want of memory.
 pub fn verify(

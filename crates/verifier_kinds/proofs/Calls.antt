@@ -15,34 +15,34 @@ use Rattle.verifier_kinds.specs.declared.description.StackSlot.{StackSlot}
 use Rattle.verifier_kinds.specs.declared.description.StackSlot.TheVariants.{Kept, Bytes}
 use Rattle.verifier_kinds.specs.declared.description.Description.{Description}
 use Rattle.verifier_kinds.specs.Kinds.{Setting, Describes, IsAnswer, IsByElement, IsKind, IsNormalKind, IsOfCallBelow, IsOfKind, join_of_kinds, shape_at}
-use Rattle.verifier_kinds.specs.Descriptions.{DescribesRegisters, DescribesSlot, DescribesStack, IsDescription, IsLawfulAt, IsNormalSlot, IsOfCallsBelow, IsSlot, IsSlotOfCallBelow, join_of, join_of_registers, join_of_slots, kept_or_bytes, register_of, with_answer_known, settled_kind, settled_slot, slot_of, start_description, with_kind, with_slot, with_unset}
+use Rattle.verifier_kinds.specs.Descriptions.{DescribesRegisters, DescribesSlot, DescribesStack, IsDescription, IsLawfulAt, IsNormalSlot, IsOfCallsBelow, IsSlot, IsSlotOfCallBelow, join_of, join_of_registers, join_of_slots, kept_or_bytes, register_of, with_answer_known, resolved_kind, resolved_slot, slot_of, start_description, with_kind, with_slot, with_unset}
 use Rattle.verifier_kinds.specs.Arithmetic.{arith_by, copied, displaced, displaced_value, kind_of, kind_with_dst, moved_number}
-use Rattle.verifier_kinds.proofs.Descriptions.{get_or-one, start_registers, register_of-with_answer_known, settled_kind_has, set_has, settled_register_has, slot_of-with_answer_known}
+use Rattle.verifier_kinds.proofs.Descriptions.{get_or-one, start_registers, register_of-with_answer_known, resolved_kind_has, set_has, resolved_register_has, slot_of-with_answer_known}
 use Rattle.verifier_kinds.proofs.Joins.{register_of-join, slot_of-join}
 use Rattle.verifier_kinds.proofs.Moves.{moved_back_is, moved_is}
 use Rattle.verifier_kinds.proofs.Values.{move_is}
 
 -- ---- once the answer of a call is known
 
-settled_of_kind : (setting : Setting) (call : ℕ) (to kind : Kind) (n : ℕ) → IsOfKind setting to (setting.answers call) → IsOfKind setting kind n → IsOfKind setting (settled_kind call to kind) n
-settled_of_kind setting call to (MaybeValue m id) n p (answer, same) = grind (arith, cond_both, eqb-true)
-settled_of_kind setting call to kind n p h = h
+resolved_of_kind : (setting : Setting) (call : ℕ) (to kind : Kind) (n : ℕ) → IsOfKind setting to (setting.answers call) → IsOfKind setting kind n → IsOfKind setting (resolved_kind call to kind) n
+resolved_of_kind setting call to (MaybeValue m id) n p (answer, same) = grind (arith, cond_both, eqb-true)
+resolved_of_kind setting call to kind n p h = h
 
-settled_describes : (setting : Setting) (call : ℕ) (to : Kind) (known : Option Kind) (x : Option ℕ) → IsOfKind setting to (setting.answers call) → Describes setting known x → Describes setting (option_map (settled_kind call to) known) x
-settled_describes setting call to None x p h = tt
-settled_describes setting call to (Some kind) None p h = h
-settled_describes setting call to (Some kind) (Some n) p h = settled_of_kind setting call to kind n p h
+resolved_describes : (setting : Setting) (call : ℕ) (to : Kind) (known : Option Kind) (x : Option ℕ) → IsOfKind setting to (setting.answers call) → Describes setting known x → Describes setting (option_map (resolved_kind call to) known) x
+resolved_describes setting call to None x p h = tt
+resolved_describes setting call to (Some kind) None p h = h
+resolved_describes setting call to (Some kind) (Some n) p h = resolved_of_kind setting call to kind n p h
 
-settled_describes_slot : (setting : Setting) (call : ℕ) (to : Kind) (slot : StackSlot) (bytes : List (Option ℕ)) → IsOfKind setting to (setting.answers call) → DescribesSlot setting slot bytes → DescribesSlot setting (settled_slot call to slot) bytes
-settled_describes_slot setting call to (Kept kind) bytes p h = (h.0, h.1, settled_of_kind setting call to kind (number_of h.0) p h.2)
-settled_describes_slot setting call to (Bytes set) bytes p h = h
+resolved_describes_slot : (setting : Setting) (call : ℕ) (to : Kind) (slot : StackSlot) (bytes : List (Option ℕ)) → IsOfKind setting to (setting.answers call) → DescribesSlot setting slot bytes → DescribesSlot setting (resolved_slot call to slot) bytes
+resolved_describes_slot setting call to (Kept kind) bytes p h = (h.0, h.1, resolved_of_kind setting call to kind (number_of h.0) p h.2)
+resolved_describes_slot setting call to (Bytes set) bytes p h = h
 
 -- where the answer of a call is of a kind, what is described stays so once that is known
-pub settled_describes_registers : (setting : Setting) (call : ℕ) (to : Kind) (d : Description) (registers : List (Option ℕ)) → IsOfKind setting to (setting.answers call) → DescribesRegisters setting d registers → DescribesRegisters setting (with_answer_known call to d) registers
-settled_describes_registers setting call to d registers p h = λ i. rw (register_of-with_answer_known call to d i) (settled_describes setting call to (register_of d i) (get_or registers i None) p (h i))
+pub resolved_describes_registers : (setting : Setting) (call : ℕ) (to : Kind) (d : Description) (registers : List (Option ℕ)) → IsOfKind setting to (setting.answers call) → DescribesRegisters setting d registers → DescribesRegisters setting (with_answer_known call to d) registers
+resolved_describes_registers setting call to d registers p h = λ i. rw (register_of-with_answer_known call to d i) (resolved_describes setting call to (register_of d i) (get_or registers i None) p (h i))
 
-pub settled_describes_stack : (setting : Setting) (call : ℕ) (to : Kind) (d : Description) (stack : List (Option ℕ)) → IsOfKind setting to (setting.answers call) → DescribesStack setting d stack → DescribesStack setting (with_answer_known call to d) stack
-settled_describes_stack setting call to d stack p h = λ k. rw (slot_of-with_answer_known call to d k) (settled_describes_slot setting call to (slot_of d k) (part_of stack (8 * k) 8) p (h k))
+pub resolved_describes_stack : (setting : Setting) (call : ℕ) (to : Kind) (d : Description) (stack : List (Option ℕ)) → IsOfKind setting to (setting.answers call) → DescribesStack setting d stack → DescribesStack setting (with_answer_known call to d) stack
+resolved_describes_stack setting call to d stack p h = λ k. rw (slot_of-with_answer_known call to d k) (resolved_describes_slot setting call to (slot_of d k) (part_of stack (8 * k) 8) p (h k))
 
 -- ---- other answers
 
@@ -125,12 +125,12 @@ with_slot_names slot d k kept p below = record {
   stack = λ j. set_has (IsSlotOfCallBelow slot) d.stack k j kept (Bytes 0) p (below.stack j);
 }
 
-settled_slot_names : (slot call : ℕ) (to : Kind) (kept : StackSlot) → IsOfCallBelow slot to → IsSlotOfCallBelow slot kept → IsSlotOfCallBelow slot (settled_slot call to kept)
-settled_slot_names slot call to (Kept kind) p h = settled_kind_has (IsOfCallBelow slot) call to kind p h
-settled_slot_names slot call to (Bytes set) p h = tt
+resolved_slot_names : (slot call : ℕ) (to : Kind) (kept : StackSlot) → IsOfCallBelow slot to → IsSlotOfCallBelow slot kept → IsSlotOfCallBelow slot (resolved_slot call to kept)
+resolved_slot_names slot call to (Kept kind) p h = resolved_kind_has (IsOfCallBelow slot) call to kind p h
+resolved_slot_names slot call to (Bytes set) p h = tt
 
-pub settled_names : (slot call : ℕ) (to : Kind) (d : Description) → IsOfCallBelow slot to → IsOfCallsBelow slot d → IsOfCallsBelow slot (with_answer_known call to d)
-settled_names slot call to d p below = grind (arith, register_of-with_answer_known, settled_register_has, slot_of-with_answer_known, settled_slot_names)
+pub resolved_names : (slot call : ℕ) (to : Kind) (d : Description) → IsOfCallBelow slot to → IsOfCallsBelow slot d → IsOfCallsBelow slot (with_answer_known call to d)
+resolved_names slot call to d p below = grind (arith, register_of-with_answer_known, resolved_register_has, slot_of-with_answer_known, resolved_slot_names)
 
 -- ---- joins
 

@@ -10,9 +10,9 @@ use Rattle.verifier_kinds.specs.declared.description.StackSlot.{StackSlot}
 use Rattle.verifier_kinds.specs.declared.description.Description.{Description}
 use Rattle.verifier_kinds.specs.declared.description.StackSlot.TheVariants.{Kept, Bytes}
 use Rattle.verifier_kinds.specs.Kinds.{IsKind, IsOffset}
-use Rattle.verifier_kinds.specs.Descriptions.{IsDescription, IsSlot, register_of, slot_of, with_answer_known, settled_kind, settled_slot, start_description, with_kind, with_slot, with_unset}
+use Rattle.verifier_kinds.specs.Descriptions.{IsDescription, IsSlot, register_of, slot_of, with_answer_known, resolved_kind, resolved_slot, start_description, with_kind, with_slot, with_unset}
 
--- a list of one value has that value at each place
+-- a list of one value has that value at each offset
 pub get_or-one : {X : Type 0} (n k : ℕ) (x : X) → get_or (replicate n x) k x ≡ x
 get_or-one zero k x = refl
 get_or-one (suc n) zero x = refl
@@ -45,7 +45,7 @@ start_is_description = record { registers = refl; stack = refl; kinds = start_re
 
 -- ---- what is known of one register or one slot of the stack
 
--- a replaced place has what all places have
+-- a replaced element has what all elements have
 pub set_has : {X : Type 0} (P : X → Type 0) (xs : List X) (i k : ℕ) (x d : X) → P x → P (get_or xs k d) → P (get_or (slice_set xs i x) k d)
 set_has P [] i k x d p h = h
 set_has P (y ∷ xs) zero zero x d p h = p
@@ -79,43 +79,43 @@ with_slot_is_description d k slot p q = record {
 
 -- ---- once it is known of what kind the answer of a call is
 
--- a list with each place changed has at each place what was there, changed
+-- a list with each offset changed has at each offset what was there, changed
 pub get_or-mapped : {X : Type 0} (f : X → X) (d : X) → f d ≡ d → (xs : List X) (i : ℕ) → get_or (map f xs) i d ≡ f (get_or xs i d)
 get_or-mapped f d same [] i = sym same
 get_or-mapped f d same (x ∷ xs) zero = refl
 get_or-mapped f d same (x ∷ xs) (suc i) = get_or-mapped f d same xs i
 
--- a list that is right below a place, and gets at that place what is right there, is right up to there
+-- a list that is right below an offset, and gets at that offset what is right there, is right up to there
 pub filled_more : {X : Type 0} (f : ℕ → X) (d : X) (xs : List X) (i : ℕ) (x : X) → i < length xs → ((n : ℕ) → n < i → get_or xs n d ≡ f n) → x ≡ f i → (n : ℕ) → n < i + 1 → get_or (slice_set xs i x) n d ≡ f n
 filled_more f d xs i x within below here =
     below_more _ _ (λ n h. let other : n ≢ i = omega arith in get_or-set_other xs i n x d other ∙ below n h) (get_or-set_same xs i x d within ∙ here)
 
--- and is the list that has that at each place
+-- and is the list that has that at each offset
 pub mapped_by_index : {X : Type 0} (f : X → X) (d : X) → f d ≡ d → (xs zs : List X) → length zs ≡ length xs → ((k : ℕ) → k < length zs → get_or zs k d ≡ f (get_or xs k d)) → zs ≡ map f xs
 mapped_by_index f d same xs zs n each =
     ext_get_or d zs (map f xs) (n ∙ sym (length-map xs f)) (λ k h. each k h ∙ sym (get_or-mapped f d same xs k))
 
-pub register_of-with_answer_known : (call : ℕ) (to : Kind) (d : Description) (i : ℕ) → register_of (with_answer_known call to d) i ≡ option_map (settled_kind call to) (register_of d i)
+pub register_of-with_answer_known : (call : ℕ) (to : Kind) (d : Description) (i : ℕ) → register_of (with_answer_known call to d) i ≡ option_map (resolved_kind call to) (register_of d i)
 unfolding with_answer_known
-register_of-with_answer_known call to d i = get_or-mapped (option_map (settled_kind call to)) None refl d.registers i
+register_of-with_answer_known call to d i = get_or-mapped (option_map (resolved_kind call to)) None refl d.registers i
 
-pub slot_of-with_answer_known : (call : ℕ) (to : Kind) (d : Description) (k : ℕ) → slot_of (with_answer_known call to d) k ≡ settled_slot call to (slot_of d k)
+pub slot_of-with_answer_known : (call : ℕ) (to : Kind) (d : Description) (k : ℕ) → slot_of (with_answer_known call to d) k ≡ resolved_slot call to (slot_of d k)
 unfolding with_answer_known
-slot_of-with_answer_known call to d k = get_or-mapped (settled_slot call to) (Bytes 0) refl d.stack k
+slot_of-with_answer_known call to d k = get_or-mapped (resolved_slot call to) (Bytes 0) refl d.stack k
 
--- what is said of a kind, and of that of the answer, is said of the settled kind
-pub settled_kind_has : (P : Kind → Type 0) (call : ℕ) (to kind : Kind) → P to → P kind → P (settled_kind call to kind)
-settled_kind_has P call to (MaybeValue m id) p q = cond_both (id == call) to (MaybeValue m id) P (λ _. p) (λ _. q)
-settled_kind_has P call to kind p q = q
+-- what is said of a kind, and of that of the answer, is said of the resolved kind
+pub resolved_kind_has : (P : Kind → Type 0) (call : ℕ) (to kind : Kind) → P to → P kind → P (resolved_kind call to kind)
+resolved_kind_has P call to (MaybeValue m id) p q = cond_both (id == call) to (MaybeValue m id) P (λ _. p) (λ _. q)
+resolved_kind_has P call to kind p q = q
 
-pub settled_register_has : (P : Kind → Type 0) (call : ℕ) (to : Kind) (known : Option Kind) → P to → IfSome known P → IfSome (option_map (settled_kind call to) known) P
-settled_register_has P call to (Some kind) p q = settled_kind_has P call to kind p q
-settled_register_has P call to None p q = tt
+pub resolved_register_has : (P : Kind → Type 0) (call : ℕ) (to : Kind) (known : Option Kind) → P to → IfSome known P → IfSome (option_map (resolved_kind call to) known) P
+resolved_register_has P call to (Some kind) p q = resolved_kind_has P call to kind p q
+resolved_register_has P call to None p q = tt
 
-settled_is_slot : (call : ℕ) (to : Kind) (slot : StackSlot) → IsKind to → IsSlot slot → IsSlot (settled_slot call to slot)
-settled_is_slot call to (Kept kind) p q = settled_kind_has IsKind call to kind p q
-settled_is_slot call to (Bytes set) p q = q
+resolved_is_slot : (call : ℕ) (to : Kind) (slot : StackSlot) → IsKind to → IsSlot slot → IsSlot (resolved_slot call to slot)
+resolved_is_slot call to (Kept kind) p q = resolved_kind_has IsKind call to kind p q
+resolved_is_slot call to (Bytes set) p q = q
 
-pub settled_is_description : (call : ℕ) (to : Kind) (d : Description) → IsKind to → IsDescription d → IsDescription (with_answer_known call to d)
+pub resolved_is_description : (call : ℕ) (to : Kind) (d : Description) → IsKind to → IsDescription d → IsDescription (with_answer_known call to d)
 unfolding with_answer_known
-settled_is_description call to d p q = grind (arith, length-map, get_or-mapped, settled_register_has, settled_is_slot)
+resolved_is_description call to d p q = grind (arith, length-map, get_or-mapped, resolved_register_has, resolved_is_slot)

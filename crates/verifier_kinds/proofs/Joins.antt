@@ -132,12 +132,12 @@ and_again p q = sym (and_assoc q p p) ∙ ap (λ n. bit_and n q) (and_self p)
 and_again_right : (p q : ℕ) → bit_and q (bit_and p q) ≡ bit_and p q
 and_again_right p q = ap (bit_and q) (and_comm p q) ∙ and_again q p ∙ and_comm q p
 
-no_places : (p : ℕ) → bit_and p 0 ≡ 0
-no_places p = omega (arith, and_le_r p 0)
+no_mask : (p : ℕ) → bit_and p 0 ≡ 0
+no_mask p = omega (arith, and_le_r p 0)
 
 kept_below : (a : Kind) (o : Option Kind) → IsBelow (Some a) o → IsSlotBelow (Kept a) (kept_or_bytes o 0)
 kept_below a (Some outer) (inner, is, within) = (inner, ap Kept (same_Some a inner is), within)
-kept_below a None h = no_places (number_bytes (Kept a))
+kept_below a None h = no_mask (number_bytes (Kept a))
 
 pub slot_below_join_left : (a b : StackSlot) → IsSlotBelow a (join_of_slots a b)
 slot_below_join_left (Kept a) (Kept b) = kept_below a (join_of_kinds a b) (kind_below_join_left a b)
@@ -151,13 +151,13 @@ slot_below_join_right (Kept a) (Bytes set) = and_again_right (number_bytes (Kept
 slot_below_join_right (Bytes set) (Kept b) = and_again_right set (number_bytes (Kept b))
 slot_below_join_right (Bytes set) (Bytes more) = and_again_right set more
 
-pub places_fit : (slot : StackSlot) → IsSlot slot → number_bytes slot < 256
-places_fit (Kept (Scalar range)) h = omega arith
-places_fit (Kept pointer) h = omega arith
-places_fit (Bytes set) h = h
+pub mask_fit : (slot : StackSlot) → IsSlot slot → number_bytes slot < 256
+mask_fit (Kept (Scalar range)) h = omega arith
+mask_fit (Kept pointer) h = omega arith
+mask_fit (Bytes set) h = h
 
-joined_places_fit : (a b : StackSlot) → IsSlot a → bit_and (number_bytes a) (number_bytes b) < 256
-joined_places_fit a b h = omega (arith, and_le_l (number_bytes a) (number_bytes b), places_fit a h)
+joined_mask_fit : (a b : StackSlot) → IsSlot a → bit_and (number_bytes a) (number_bytes b) < 256
+joined_mask_fit a b h = omega (arith, and_le_l (number_bytes a) (number_bytes b), mask_fit a h)
 
 kept_is_slot : (o : Option Kind) → IfSome o IsKind → IsSlot (kept_or_bytes o 0)
 kept_is_slot (Some kind) h = h
@@ -165,9 +165,9 @@ kept_is_slot None h = omega arith
 
 pub join_is_slot : (a b : StackSlot) → IsSlot a → IsSlot b → IsSlot (join_of_slots a b)
 join_is_slot (Kept a) (Kept b) p q = kept_is_slot (join_of_kinds a b) (join_is_kind a b p q)
-join_is_slot (Kept a) (Bytes set) p q = joined_places_fit (Kept a) (Bytes set) p
-join_is_slot (Bytes set) (Kept b) p q = joined_places_fit (Bytes set) (Kept b) p
-join_is_slot (Bytes set) (Bytes more) p q = joined_places_fit (Bytes set) (Bytes more) p
+join_is_slot (Kept a) (Bytes set) p q = joined_mask_fit (Kept a) (Bytes set) p
+join_is_slot (Bytes set) (Kept b) p q = joined_mask_fit (Bytes set) (Kept b) p
+join_is_slot (Bytes set) (Bytes more) p q = joined_mask_fit (Bytes set) (Bytes more) p
 
 -- ---- descriptions
 
@@ -176,7 +176,7 @@ length-joined_with f [] ys e = refl
 length-joined_with f (x ∷ xs) [] e = absurd (omega arith)
 length-joined_with f (x ∷ xs) (y ∷ ys) e = ap suc (length-joined_with f xs ys (omega arith))
 
--- a merged list has at each place what the two merge to there
+-- a merged list has at each offset what the two merge to there
 pub get_or-joined_with : {X : Type 0} (f : X → X → X) (d : X) → f d d ≡ d → (xs ys : List X) (i : ℕ) → length xs ≡ length ys → get_or (joined_with f xs ys) i d ≡ f (get_or xs i d) (get_or ys i d)
 get_or-joined_with f d same [] [] i e = sym same
 get_or-joined_with f d same [] (y ∷ ys) i e = absurd (omega arith)
@@ -184,7 +184,7 @@ get_or-joined_with f d same (x ∷ xs) [] i e = absurd (omega arith)
 get_or-joined_with f d same (x ∷ xs) (y ∷ ys) zero e = refl
 get_or-joined_with f d same (x ∷ xs) (y ∷ ys) (suc i) e = get_or-joined_with f d same xs ys i (omega arith)
 
--- a list that has that at each place is the merged list
+-- a list that has that at each offset is the merged list
 pub merged_by_index : {X : Type 0} (f : X → X → X) (d : X) → f d d ≡ d → (xs ys zs : List X) → length xs ≡ length ys → length zs ≡ length xs → ((k : ℕ) → k < length zs → get_or zs k d ≡ f (get_or xs k d) (get_or ys k d)) → zs ≡ joined_with f xs ys
 merged_by_index f d same xs ys zs e n each =
     ext_get_or d zs (joined_with f xs ys) (n ∙ sym (length-joined_with f xs ys e))

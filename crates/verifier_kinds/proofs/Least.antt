@@ -61,28 +61,28 @@ registers_join_below a b None p q = tt
 registers_join_below a b (Some c) (x, left, within) (y, right, also) =
     rw (left, right) (kinds_join_below x y c within also)
 
-kept_join_places : (a b : Kind) (set : ℕ) → bit_and (number_bytes (Kept a)) set ≡ set → bit_and (number_bytes (Kept b)) set ≡ set → bit_and (number_bytes (kept_or_bytes (join_of_kinds a b) 0)) set ≡ set
-kept_join_places (Scalar a) (Scalar b) set p q = p
-kept_join_places (Scalar a) pointer set p q = q
-kept_join_places (Context a) (Context b) set p q = cond_both (is_same a b) (Some (Context a)) None (λ o. bit_and (number_bytes (kept_or_bytes o 0)) set ≡ set) (λ _. p) (λ _. p)
-kept_join_places (Stack a) (Stack b) set p q = cond_both (is_same a b) (Some (Stack a)) None (λ o. bit_and (number_bytes (kept_or_bytes o 0)) set ≡ set) (λ _. p) (λ _. p)
-kept_join_places (MapValue m a) (MapValue n b) set p q =
+kept_join_mask : (a b : Kind) (set : ℕ) → bit_and (number_bytes (Kept a)) set ≡ set → bit_and (number_bytes (Kept b)) set ≡ set → bit_and (number_bytes (kept_or_bytes (join_of_kinds a b) 0)) set ≡ set
+kept_join_mask (Scalar a) (Scalar b) set p q = p
+kept_join_mask (Scalar a) pointer set p q = q
+kept_join_mask (Context a) (Context b) set p q = cond_both (is_same a b) (Some (Context a)) None (λ o. bit_and (number_bytes (kept_or_bytes o 0)) set ≡ set) (λ _. p) (λ _. p)
+kept_join_mask (Stack a) (Stack b) set p q = cond_both (is_same a b) (Some (Stack a)) None (λ o. bit_and (number_bytes (kept_or_bytes o 0)) set ≡ set) (λ _. p) (λ _. p)
+kept_join_mask (MapValue m a) (MapValue n b) set p q =
     cond_both (m == n) (Some (MapValue m (offsets_in (join_of_ranges (range_in a) (range_in b))))) None (λ o. bit_and (number_bytes (kept_or_bytes o 0)) set ≡ set) (λ _. p) (λ _. p)
-kept_join_places (MaybeValue m i) (MaybeValue n j) set p q = cond_both ((m == n) && (i == j)) (Some (MaybeValue m i)) None (λ o. bit_and (number_bytes (kept_or_bytes o 0)) set ≡ set) (λ _. p) (λ _. p)
-kept_join_places (MapName m) (MapName n) set p q = cond_both (m == n) (Some (MapName m)) None (λ o. bit_and (number_bytes (kept_or_bytes o 0)) set ≡ set) (λ _. p) (λ _. p)
-kept_join_places pointer b set p q = p
+kept_join_mask (MaybeValue m i) (MaybeValue n j) set p q = cond_both ((m == n) && (i == j)) (Some (MaybeValue m i)) None (λ o. bit_and (number_bytes (kept_or_bytes o 0)) set ≡ set) (λ _. p) (λ _. p)
+kept_join_mask (MapName m) (MapName n) set p q = cond_both (m == n) (Some (MapName m)) None (λ o. bit_and (number_bytes (kept_or_bytes o 0)) set ≡ set) (λ _. p) (λ _. p)
+kept_join_mask pointer b set p q = p
 
-places_join : (p q set : ℕ) → bit_and p set ≡ set → bit_and q set ≡ set → bit_and (bit_and p q) set ≡ set
-places_join p q set left right = and_assoc set p q ∙ ap (bit_and p) right ∙ left
+mask_join : (p q set : ℕ) → bit_and p set ≡ set → bit_and q set ≡ set → bit_and (bit_and p q) set ≡ set
+mask_join p q set left right = and_assoc set p q ∙ ap (bit_and p) right ∙ left
 
 pub slots_join_below : (a b c : StackSlot) → IsSlotBelow a c → IsSlotBelow b c → IsSlotBelow (join_of_slots a b) c
 slots_join_below a b (Kept c) (x, left, within) (y, right, also) =
     let join = kinds_join_below x y c within also in
     rw (left, right) (join.0, ap (λ o. kept_or_bytes o 0) join.1, join.2)
-slots_join_below (Kept a) (Kept b) (Bytes set) p q = kept_join_places a b set p q
-slots_join_below (Kept a) (Bytes y) (Bytes set) p q = places_join (number_bytes (Kept a)) y set p q
-slots_join_below (Bytes x) (Kept b) (Bytes set) p q = places_join x (number_bytes (Kept b)) set p q
-slots_join_below (Bytes x) (Bytes y) (Bytes set) p q = places_join x y set p q
+slots_join_below (Kept a) (Kept b) (Bytes set) p q = kept_join_mask a b set p q
+slots_join_below (Kept a) (Bytes y) (Bytes set) p q = mask_join (number_bytes (Kept a)) y set p q
+slots_join_below (Bytes x) (Kept b) (Bytes set) p q = mask_join x (number_bytes (Kept b)) set p q
+slots_join_below (Bytes x) (Bytes y) (Bytes set) p q = mask_join x y set p q
 
 -- the join of two descriptions is below each description that is above both
 pub join_below : (d e above : Description) → IsDescription d → IsDescription e → IsDescriptionBelow d above → IsDescriptionBelow e above → IsDescriptionBelow (join_of d e) above

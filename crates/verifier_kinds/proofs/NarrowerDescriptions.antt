@@ -14,11 +14,11 @@ use Rattle.verifier_kinds.specs.declared.description.StackSlot.{StackSlot}
 use Rattle.verifier_kinds.specs.declared.description.StackSlot.TheVariants.{Kept, Bytes}
 use Rattle.verifier_kinds.specs.declared.description.Description.{Description}
 use Rattle.verifier_kinds.specs.Kinds.{IsNormalKind}
-use Rattle.verifier_kinds.specs.Descriptions.{IsDescription, IsNormalSlot, number_bytes, register_of, slot_of, with_answer_known, settled_kind, settled_slot, with_kind, with_slot, with_unset}
+use Rattle.verifier_kinds.specs.Descriptions.{IsDescription, IsNormalSlot, number_bytes, register_of, slot_of, with_answer_known, resolved_kind, resolved_slot, with_kind, with_slot, with_unset}
 use Rattle.verifier_kinds.specs.Wide.{IsWideKind, IsWideAt}
 use Rattle.verifier_kinds.proofs.Calls.{register_is_normal, slot_is_normal}
 use Rattle.verifier_kinds.proofs.Descriptions.{register_of-with_answer_known, slot_of-with_answer_known}
-use Rattle.verifier_kinds.proofs.Under.{IsKindUnder, IsKnownUnder, IsSlotUnder, IsDescriptionUnder, under_places}
+use Rattle.verifier_kinds.proofs.Under.{IsKindUnder, IsKnownUnder, IsSlotUnder, IsDescriptionUnder, under_mask}
 use Rattle.verifier_kinds.proofs.NarrowerKinds.{IsKnownNarrower}
 
 -- ---- descriptions with normal ranges
@@ -67,7 +67,7 @@ known_narrows extra a (Some c) whole (x, is, below) p q = (x, is, record { whole
 pub register_narrows : (extra : ℕ) (d e : Description) (i : ℕ) → IsNarrower extra d e → IsKnownNarrower extra (register_of d i) (register_of e i)
 register_narrows extra d e i n = known_narrows extra (register_of d i) (register_of e i) n.whole (n.below.registers i) (n.smaller.kinds i) (n.larger.kinds i)
 
--- ---- replaced places
+-- ---- replaced elements
 
 -- one description is under another, and both have as many registers and slots of the stack
 pub record IsAlikeBelow (extra : ℕ) (d e : Description) : Type 0 where
@@ -78,7 +78,7 @@ pub record IsAlikeBelow (extra : ℕ) (d e : Description) : Type 0 where
 pub alike : (extra : ℕ) (d e : Description) → IsNarrower extra d e → IsAlikeBelow extra d e
 alike extra d e n = record { below = n.below; registers = n.smaller.registers ∙ sym n.larger.registers; stack = n.smaller.stack ∙ sym n.larger.stack }
 
--- what relates all places of two lists does so once a place of both is replaced by what it relates
+-- what relates all elements of two lists does so once an element of both is replaced by what it relates
 set_relates : {X : Type 0} (R : X → X → Type 0) (xs ys : List X) (i k : ℕ) (x y d : X) → length xs ≡ length ys → R x y → R (get_or xs k d) (get_or ys k d) → R (get_or (slice_set xs i x) k d) (get_or (slice_set ys i y) k d)
 set_relates R [] [] i k x y d e p h = h
 set_relates R [] (v ∷ ys) i k x y d e p h = absurd (omega arith)
@@ -118,66 +118,66 @@ with_slot_below extra d e j a b p n = record {
 -- ---- bytes of the stack
 
 -- bytes that are known where less is known are known where more is
-pub places_known : (more set places : ℕ) → bit_and more set ≡ set → bit_and set places ≡ places → bit_and more places ≡ places
-places_known more set places p q =
-    ap (bit_and more) (sym q) ∙ sym (and_assoc places more set) ∙ ap (λ n. bit_and n places) p ∙ q
+pub mask_known : (more set mask : ℕ) → bit_and more set ≡ set → bit_and set mask ≡ mask → bit_and more mask ≡ mask
+mask_known more set mask p q =
+    ap (bit_and more) (sym q) ∙ sym (and_assoc mask more set) ∙ ap (λ n. bit_and n mask) p ∙ q
 
 -- where no byte is known, none of a set is
 pub none_known : (set : ℕ) → bit_and 0 set ≡ set → set ≡ 0
 none_known set e = sym e ∙ and_zero_l set
 
-no_places : (n : ℕ) → bit_and n 0 ≡ 0
-no_places n = omega (arith, and_le_r n 0)
+no_mask : (n : ℕ) → bit_and n 0 ≡ 0
+no_mask n = omega (arith, and_le_r n 0)
 
 -- a slot under another is known to hold at least the numbers that the other is
-pub places_more : (extra : ℕ) (a b : StackSlot) → IsSlotUnder extra a b → bit_and (number_bytes a) (number_bytes b) ≡ number_bytes b
-places_more extra a (Kept outer) (inner, is, below) = grind (arith, under_places)
-places_more extra a (Bytes set) p = p
+pub mask_more : (extra : ℕ) (a b : StackSlot) → IsSlotUnder extra a b → bit_and (number_bytes a) (number_bytes b) ≡ number_bytes b
+mask_more extra a (Kept outer) (inner, is, below) = grind (arith, under_mask)
+mask_more extra a (Bytes set) p = p
 
 -- and still is once some of both are written
-pub places_written : (more fewer places : ℕ) → bit_and more fewer ≡ fewer → bit_and (bit_or more places) (bit_or fewer places) ≡ bit_or fewer places
-places_written more fewer places p =
-    same_from_bits (bit_and (bit_or more places) (bit_or fewer places)) (bit_or fewer places)
-    (λ i. bit_at_and (bit_or more places) (bit_or fewer places) i ∙ one_bit i)
+pub mask_written : (more fewer mask : ℕ) → bit_and more fewer ≡ fewer → bit_and (bit_or more mask) (bit_or fewer mask) ≡ bit_or fewer mask
+mask_written more fewer mask p =
+    same_from_bits (bit_and (bit_or more mask) (bit_or fewer mask)) (bit_or fewer mask)
+    (λ i. bit_at_and (bit_or more mask) (bit_or fewer mask) i ∙ one_bit i)
   where
-    one_bit : (i : ℕ) → min (bit_at (bit_or more places) i) (bit_at (bit_or fewer places) i) ≡ bit_at (bit_or fewer places) i
+    one_bit : (i : ℕ) → min (bit_at (bit_or more mask) i) (bit_at (bit_or fewer mask) i) ≡ bit_at (bit_or fewer mask) i
     one_bit i =
         let known : min (bit_at more i) (bit_at fewer i) ≡ bit_at fewer i = sym (bit_at_and more fewer i) ∙ ap (λ n. bit_at n i) p in
-        let left = bit_at_or more places i in
-        let right = bit_at_or fewer places i in
+        let left = bit_at_or more mask i in
+        let right = bit_at_or fewer mask i in
         omega (arith, known, left, right)
 
 -- ---- once the answer of a call is known
 
-settled_kinds_below : (extra call : ℕ) (to wide a b : Kind) → IsKindUnder extra to wide → IsKindUnder extra a b → IsKindUnder extra (settled_kind call to a) (settled_kind call wide b)
-settled_kinds_below extra call to wide a (Scalar outer) p (inner, is, within) = rw is (inner, refl, within)
-settled_kinds_below extra call to wide a (Context offset) p is = rw is refl
-settled_kinds_below extra call to wide a (Stack offset) p is = rw is refl
-settled_kinds_below extra call to wide a (MapValue m outer) p (inner, is, within) = rw is (inner, refl, within)
-settled_kinds_below extra call to wide a (MaybeValue m id) p is = grind (arith)
-settled_kinds_below extra call to wide a (MapName m) p is = rw is refl
+resolved_kinds_below : (extra call : ℕ) (to wide a b : Kind) → IsKindUnder extra to wide → IsKindUnder extra a b → IsKindUnder extra (resolved_kind call to a) (resolved_kind call wide b)
+resolved_kinds_below extra call to wide a (Scalar outer) p (inner, is, within) = rw is (inner, refl, within)
+resolved_kinds_below extra call to wide a (Context offset) p is = rw is refl
+resolved_kinds_below extra call to wide a (Stack offset) p is = rw is refl
+resolved_kinds_below extra call to wide a (MapValue m outer) p (inner, is, within) = rw is (inner, refl, within)
+resolved_kinds_below extra call to wide a (MaybeValue m id) p is = grind (arith)
+resolved_kinds_below extra call to wide a (MapName m) p is = rw is refl
 
-settled_registers_below : (extra call : ℕ) (to wide : Kind) (a b : Option Kind) → IsKindUnder extra to wide → IsKnownUnder extra a b → IsKnownUnder extra (option_map (settled_kind call to) a) (option_map (settled_kind call wide) b)
-settled_registers_below extra call to wide a None u p = tt
-settled_registers_below extra call to wide a (Some b) u (x, is, below) = rw is (settled_kind call to x, refl, settled_kinds_below extra call to wide x b u below)
+resolved_registers_below : (extra call : ℕ) (to wide : Kind) (a b : Option Kind) → IsKindUnder extra to wide → IsKnownUnder extra a b → IsKnownUnder extra (option_map (resolved_kind call to) a) (option_map (resolved_kind call wide) b)
+resolved_registers_below extra call to wide a None u p = tt
+resolved_registers_below extra call to wide a (Some b) u (x, is, below) = rw is (resolved_kind call to x, refl, resolved_kinds_below extra call to wide x b u below)
 
 -- a kept answer is known to hold no number, so of its bytes none is in the other slot
-settled_bytes : (call : ℕ) (to kind : Kind) (set : ℕ) → bit_and (number_bytes (Kept kind)) set ≡ set → bit_and (number_bytes (Kept (settled_kind call to kind))) set ≡ set
-settled_bytes call to (MaybeValue m id) set p = grind (arith, cond_both, bit_and, none_known, no_places)
-settled_bytes call to kind set p = p
+resolved_bytes : (call : ℕ) (to kind : Kind) (set : ℕ) → bit_and (number_bytes (Kept kind)) set ≡ set → bit_and (number_bytes (Kept (resolved_kind call to kind))) set ≡ set
+resolved_bytes call to (MaybeValue m id) set p = grind (arith, cond_both, bit_and, none_known, no_mask)
+resolved_bytes call to kind set p = p
 
-settled_slots_below : (extra call : ℕ) (to wide : Kind) (a b : StackSlot) → IsKindUnder extra to wide → IsSlotUnder extra a b → IsSlotUnder extra (settled_slot call to a) (settled_slot call wide b)
-settled_slots_below extra call to wide a (Kept b) u (x, is, below) = rw is (settled_kind call to x, refl, settled_kinds_below extra call to wide x b u below)
-settled_slots_below extra call to wide (Kept kind) (Bytes set) u p = settled_bytes call to kind set p
-settled_slots_below extra call to wide (Bytes more) (Bytes set) u p = p
+resolved_slots_below : (extra call : ℕ) (to wide : Kind) (a b : StackSlot) → IsKindUnder extra to wide → IsSlotUnder extra a b → IsSlotUnder extra (resolved_slot call to a) (resolved_slot call wide b)
+resolved_slots_below extra call to wide a (Kept b) u (x, is, below) = rw is (resolved_kind call to x, refl, resolved_kinds_below extra call to wide x b u below)
+resolved_slots_below extra call to wide (Kept kind) (Bytes set) u p = resolved_bytes call to kind set p
+resolved_slots_below extra call to wide (Bytes more) (Bytes set) u p = p
 
-pub settled_below : (extra call : ℕ) (to wide : Kind) (d e : Description) → IsKindUnder extra to wide → IsAlikeBelow extra d e → IsAlikeBelow extra (with_answer_known call to d) (with_answer_known call wide e)
+pub resolved_below : (extra call : ℕ) (to wide : Kind) (d e : Description) → IsKindUnder extra to wide → IsAlikeBelow extra d e → IsAlikeBelow extra (with_answer_known call to d) (with_answer_known call wide e)
 unfolding with_answer_known
-settled_below extra call to wide d e u n = record {
+resolved_below extra call to wide d e u n = record {
   below = record {
-    registers = λ i. rw (register_of-with_answer_known call to d i, register_of-with_answer_known call wide e i) (settled_registers_below extra call to wide (register_of d i) (register_of e i) u (n.below.registers i));
-    slots = λ k. rw (slot_of-with_answer_known call to d k, slot_of-with_answer_known call wide e k) (settled_slots_below extra call to wide (slot_of d k) (slot_of e k) u (n.below.slots k));
+    registers = λ i. rw (register_of-with_answer_known call to d i, register_of-with_answer_known call wide e i) (resolved_registers_below extra call to wide (register_of d i) (register_of e i) u (n.below.registers i));
+    slots = λ k. rw (slot_of-with_answer_known call to d k, slot_of-with_answer_known call wide e k) (resolved_slots_below extra call to wide (slot_of d k) (slot_of e k) u (n.below.slots k));
   };
-  registers = length-map d.registers (option_map (settled_kind call to)) ∙ n.registers ∙ sym (length-map e.registers (option_map (settled_kind call wide)));
-  stack = length-map d.stack (settled_slot call to) ∙ n.stack ∙ sym (length-map e.stack (settled_slot call wide));
+  registers = length-map d.registers (option_map (resolved_kind call to)) ∙ n.registers ∙ sym (length-map e.registers (option_map (resolved_kind call wide)));
+  stack = length-map d.stack (resolved_slot call to) ∙ n.stack ∙ sym (length-map e.stack (resolved_slot call wide));
 }

@@ -248,7 +248,7 @@ arithmetic_narrows extra code width offset a c b d p q = by_test (reads_dst code
     by_test true = with_dst_narrows extra code width offset a c b d p q
     by_test false = copied_narrows extra width offset b d q
 
--- ---- what a conditional jump tells
+-- ---- what a conditional jump gives
 
 -- what is left of one range lies within what is left of another
 abbrev pub IsLeftWithin : Option Range → Option Range → Type 0

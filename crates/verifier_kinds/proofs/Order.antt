@@ -47,18 +47,18 @@ slot_below_self (Kept kind) = (kind, refl, kind_below_self kind)
 slot_below_self (Bytes set) = and_self set
 
 -- a slot below one that keeps a kind knows the same bytes to hold numbers
-pub kept_places : (a b : Kind) → IsKindBelow a b → number_bytes (Kept a) ≡ number_bytes (Kept b)
-kept_places a (Scalar outer) (inner, is, within) = ap (λ k. number_bytes (Kept k)) is
-kept_places a (Context offset) is = ap (λ k. number_bytes (Kept k)) is
-kept_places a (Stack offset) is = ap (λ k. number_bytes (Kept k)) is
-kept_places a (MapValue m offsets) (inner, is, within) = ap (λ k. number_bytes (Kept k)) is
-kept_places a (MaybeValue m id) is = ap (λ k. number_bytes (Kept k)) is
-kept_places a (MapName m) is = ap (λ k. number_bytes (Kept k)) is
+pub kept_mask : (a b : Kind) → IsKindBelow a b → number_bytes (Kept a) ≡ number_bytes (Kept b)
+kept_mask a (Scalar outer) (inner, is, within) = ap (λ k. number_bytes (Kept k)) is
+kept_mask a (Context offset) is = ap (λ k. number_bytes (Kept k)) is
+kept_mask a (Stack offset) is = ap (λ k. number_bytes (Kept k)) is
+kept_mask a (MapValue m offsets) (inner, is, within) = ap (λ k. number_bytes (Kept k)) is
+kept_mask a (MaybeValue m id) is = ap (λ k. number_bytes (Kept k)) is
+kept_mask a (MapName m) is = ap (λ k. number_bytes (Kept k)) is
 
 pub slot_below_trans : (a b c : StackSlot) → IsSlotBelow a b → IsSlotBelow b c → IsSlotBelow a c
 slot_below_trans a b (Kept outer) p (middle, is, within) = grind (arith, kind_below_trans)
 slot_below_trans a (Kept kind) (Bytes set) (inner, is, within) q =
-    ap (λ slot. bit_and (number_bytes slot) set) is ∙ ap (λ n. bit_and n set) (kept_places inner kind within) ∙ q
+    ap (λ slot. bit_and (number_bytes slot) set) is ∙ ap (λ n. bit_and n set) (kept_mask inner kind within) ∙ q
 slot_below_trans a (Bytes more) (Bytes set) p q =
     ap (bit_and (number_bytes a)) (sym q) ∙ sym (and_assoc set (number_bytes a) more) ∙ ap (λ n. bit_and n set) p ∙ q
 

@@ -22,7 +22,7 @@ use Rattle.verifier_kinds.specs.declared.description.StackSlot.{StackSlot}
 use Rattle.verifier_kinds.specs.declared.description.StackSlot.TheVariants.{Kept, Bytes}
 use Rattle.verifier_kinds.specs.declared.description.Description.{Description}
 use Rattle.verifier_kinds.specs.Kinds.{is_constant, least_align, IsKindBelow, IsBelow}
-use Rattle.verifier_kinds.specs.Descriptions.{IsSlotBelow, IsDescriptionBelow, number_bytes, register_of, slot_of, with_answer_known, settled_kind, settled_slot, with_kind, with_slot, with_unset}
+use Rattle.verifier_kinds.specs.Descriptions.{IsSlotBelow, IsDescriptionBelow, number_bytes, register_of, slot_of, with_answer_known, resolved_kind, resolved_slot, with_kind, with_slot, with_unset}
 use Rattle.verifier_kinds.specs.Arithmetic.{signed_offset, within_value, displaced_value, kind_of, kind_with_dst, moved_number, copied, arith_by}
 use Rattle.verifier_kinds.specs.Wide.{raised, raised_kind, raised_slot, raised_description, within_value_at, displaced_value_at, kind_of_at, kind_with_dst_at, arith_by_at}
 use Rattle.verifier_kinds.proofs.Descriptions.{get_or-mapped}
@@ -112,26 +112,26 @@ raised_bytes extra (Kept (Scalar range)) = refl
 raised_bytes extra (Kept pointer) = refl
 raised_bytes extra (Bytes set) = refl
 
-settled_kind-raised : (extra call : ℕ) (to kind : Kind) → settled_kind call (raised_kind extra to) (raised_kind extra kind) ≡ raised_kind extra (settled_kind call to kind)
-settled_kind-raised extra call to (MaybeValue m id) = grind (arith, true, false)
-settled_kind-raised extra call to kind = refl
+resolved_kind-raised : (extra call : ℕ) (to kind : Kind) → resolved_kind call (raised_kind extra to) (raised_kind extra kind) ≡ raised_kind extra (resolved_kind call to kind)
+resolved_kind-raised extra call to (MaybeValue m id) = grind (arith, true, false)
+resolved_kind-raised extra call to kind = refl
 
-settled_register-raised : (extra call : ℕ) (to : Kind) (known : Option Kind) → option_map (settled_kind call (raised_kind extra to)) (option_map (raised_kind extra) known) ≡ option_map (raised_kind extra) (option_map (settled_kind call to) known)
-settled_register-raised extra call to None = refl
-settled_register-raised extra call to (Some kind) = ap Some (settled_kind-raised extra call to kind)
+resolved_register-raised : (extra call : ℕ) (to : Kind) (known : Option Kind) → option_map (resolved_kind call (raised_kind extra to)) (option_map (raised_kind extra) known) ≡ option_map (raised_kind extra) (option_map (resolved_kind call to) known)
+resolved_register-raised extra call to None = refl
+resolved_register-raised extra call to (Some kind) = ap Some (resolved_kind-raised extra call to kind)
 
-settled_slot-raised : (extra call : ℕ) (to : Kind) (slot : StackSlot) → settled_slot call (raised_kind extra to) (raised_slot extra slot) ≡ raised_slot extra (settled_slot call to slot)
-settled_slot-raised extra call to (Kept kind) = ap Kept (settled_kind-raised extra call to kind)
-settled_slot-raised extra call to (Bytes set) = refl
+resolved_slot-raised : (extra call : ℕ) (to : Kind) (slot : StackSlot) → resolved_slot call (raised_kind extra to) (raised_slot extra slot) ≡ raised_slot extra (resolved_slot call to slot)
+resolved_slot-raised extra call to (Kept kind) = ap Kept (resolved_kind-raised extra call to kind)
+resolved_slot-raised extra call to (Bytes set) = refl
 
--- two changes after each other of each place of a list
+-- two changes after each other of each offset of a list
 maps_alike : {X : Type 0} (f g h k : X → X) (xs : List X) → ((x : X) → f (g x) ≡ h (k x)) → map f (map g xs) ≡ map h (map k xs)
 maps_alike f g h k [] same = refl
 maps_alike f g h k (x ∷ xs) same = ap (λ y. y ∷ map f (map g xs)) (same x) ∙ ap (λ ys. h (k x) ∷ ys) (maps_alike f g h k xs same)
 
 pub with_answer_known-raised : (extra call : ℕ) (to : Kind) (d : Description) → with_answer_known call (raised_kind extra to) (raised_description extra d) ≡ raised_description extra (with_answer_known call to d)
 unfolding with_answer_known
-with_answer_known-raised extra call to d = grind (arith, map, maps_alike, settled_register-raised, settled_slot-raised)
+with_answer_known-raised extra call to d = grind (arith, map, maps_alike, resolved_register-raised, resolved_slot-raised)
 
 -- ---- the order
 

@@ -97,7 +97,7 @@ sum_divided Eight x y p q = omega arith
 pub in_normal : (low high : ℕ) (d : Align) (n : ℕ) → low ≤ n → n ≤ high → n % factor d ≡ 0 → IsIn (normal low high d) n
 in_normal low high d n p q e = grind (arith, first_below, last_above, cond_both, eqb-true, divided_by_align_of)
 
--- a normal range that has a number meets what each range of the verifier meets
+-- a normal range that has a number fulfils what each range of the verifier meets
 pub normal_is_normal : (low high : ℕ) (d : Align) (n : ℕ) → low ≤ n → n ≤ high → n % factor d ≡ 0 → high < 2 ^ 64 → IsNormal (normal low high d)
 normal_is_normal low high d n p q e fits = grind (arith, first_below, last_above, last_below, cond_both, divided_by_align_of, first_divided, eqb-true, last_divided, cond-true, eq-eqb)
 

@@ -1,4 +1,4 @@
--- What a conditional jump tells of dst: the ways that it lets through are normal, and have each number that goes there.
+-- What a conditional jump says of dst: the ways that it lets through are normal, and have each number that goes there.
 use Rattle.std.proofs.Common.{◌≡◌, ℕ, ◌+◌, ◌-◌, ◌/◌, ◌*◌, ◌%◌, ◌^◌, ◌<◌, ◌≤◌, ◌==◌, ◌∙◌, nat_lt, nat_le, min, max, Bool, true, false, not, if◌then◌else◌, Option, Some, None, IfSome, refl, sym, arith}
 use Rattle.std.specs.Prelude.{option_map}
 use Rattle.std.proofs.lemmas.Bool.{and_parts, cond_both, eqb-true, eqb-false, leb-true, leb-false, ltb-true, ltb-false}
@@ -15,7 +15,7 @@ use Rattle.verifier_kinds.specs.declared.kind.Kind.{Kind}
 use Rattle.verifier_kinds.specs.declared.kind.Kind.TheVariants.{Scalar}
 use Rattle.verifier_kinds.specs.Kinds.{factor, rank, greatest_align, is_constant, IsIn, IsNormal, IsKind}
 use Rattle.verifier_kinds.specs.Arithmetic.{between, normal_of}
-use Rattle.verifier_kinds.specs.Refinement.{some_of, without_end, negated, kept_by, is_told, refined, refined_kind}
+use Rattle.verifier_kinds.specs.Refinement.{some_of, without_end, negated, kept_by, is_informative, refined, refined_kind}
 use Rattle.verifier_kinds.proofs.Ranges.{first_divided, last_below}
 use Rattle.verifier_kinds.proofs.Operands.{constant_number, in_normal_of, normal_of_is_normal}
 
@@ -156,44 +156,44 @@ not_false true e = refl
 not_false false e = cc
 
 -- each way of a comparison of numbers leaves those that go there
-way_leaves : (comparison : Comparison) (width : Width) (taken : Bool) (a b : Range) (x y : ℕ) → IsIn a x → IsIn b y → compared comparison width x y ≡ taken → Leaves (kept_by (if taken then comparison else negated comparison) a b) x
-way_leaves Equal width true a b x y p q e = common_leaves a b x p (rw (eqb-true x y e) q)
-way_leaves Equal width false a b x y p q e = different_leaves a b x y p q (eqb-false x y e)
-way_leaves NotEqual width true a b x y p q e = different_leaves a b x y p q (eqb-false x y (not_true (x == y) e))
-way_leaves NotEqual width false a b x y p q e = common_leaves a b x p (rw (eqb-true x y (not_false (x == y) e)) q)
-way_leaves Greater width true a b x y p q e = greater_leaves a b x y p q (ltb-true y x e)
-way_leaves Greater width false a b x y p q e = less_or_equal_leaves a b x y p q (omega (arith, ltb-false y x e))
-way_leaves GreaterOrEqual width true a b x y p q e = greater_or_equal_leaves a b x y p q (leb-true y x e)
-way_leaves GreaterOrEqual width false a b x y p q e = less_leaves a b x y p q (omega (arith, leb-false y x e))
-way_leaves Less width true a b x y p q e = less_leaves a b x y p q (ltb-true x y e)
-way_leaves Less width false a b x y p q e = greater_or_equal_leaves a b x y p q (omega (arith, ltb-false x y e))
-way_leaves LessOrEqual width true a b x y p q e = less_or_equal_leaves a b x y p q (leb-true x y e)
-way_leaves LessOrEqual width false a b x y p q e = greater_leaves a b x y p q (omega (arith, leb-false x y e))
-way_leaves comparison width true a b x y p q e = (a, refl, p)
-way_leaves comparison width false a b x y p q e = (a, refl, p)
+successor_leaves : (comparison : Comparison) (width : Width) (taken : Bool) (a b : Range) (x y : ℕ) → IsIn a x → IsIn b y → compared comparison width x y ≡ taken → Leaves (kept_by (if taken then comparison else negated comparison) a b) x
+successor_leaves Equal width true a b x y p q e = common_leaves a b x p (rw (eqb-true x y e) q)
+successor_leaves Equal width false a b x y p q e = different_leaves a b x y p q (eqb-false x y e)
+successor_leaves NotEqual width true a b x y p q e = different_leaves a b x y p q (eqb-false x y (not_true (x == y) e))
+successor_leaves NotEqual width false a b x y p q e = common_leaves a b x p (rw (eqb-true x y (not_false (x == y) e)) q)
+successor_leaves Greater width true a b x y p q e = greater_leaves a b x y p q (ltb-true y x e)
+successor_leaves Greater width false a b x y p q e = less_or_equal_leaves a b x y p q (omega (arith, ltb-false y x e))
+successor_leaves GreaterOrEqual width true a b x y p q e = greater_or_equal_leaves a b x y p q (leb-true y x e)
+successor_leaves GreaterOrEqual width false a b x y p q e = less_leaves a b x y p q (omega (arith, leb-false y x e))
+successor_leaves Less width true a b x y p q e = less_leaves a b x y p q (ltb-true x y e)
+successor_leaves Less width false a b x y p q e = greater_or_equal_leaves a b x y p q (omega (arith, ltb-false x y e))
+successor_leaves LessOrEqual width true a b x y p q e = less_or_equal_leaves a b x y p q (leb-true x y e)
+successor_leaves LessOrEqual width false a b x y p q e = greater_leaves a b x y p q (omega (arith, leb-false x y e))
+successor_leaves comparison width true a b x y p q e = (a, refl, p)
+successor_leaves comparison width false a b x y p q e = (a, refl, p)
 
 -- where ranges are within the numbers of the width, their numbers are compared as they are
-holds_of_told : (comparison : Comparison) (width : Width) (x y : ℕ) → x < modulus width → y < modulus width → holds comparison width x y ≡ compared comparison width x y
+holds_of_answered : (comparison : Comparison) (width : Width) (x y : ℕ) → x < modulus width → y < modulus width → holds comparison width x y ≡ compared comparison width x y
 unfolding holds
-holds_of_told comparison width x y xs ys = rw (low_of_small width x xs, low_of_small width y ys) refl
+holds_of_answered comparison width x y xs ys = rw (low_of_small width x xs, low_of_small width y ys) refl
 
 -- Refinement is sound: a number that goes a way is among those that are left there, so an empty way is never gone.
 pub refined_sound : (comparison : Comparison) (width : Width) (taken : Bool) (a b : Range) (x y : ℕ) → IsNormal a → IsNormal b → IsIn a x → IsIn b y → holds comparison width x y ≡ taken → (r : Range) × (refined comparison width taken a b ≡ Some r) × IsIn r x
 refined_sound comparison width taken a b x y normal_a normal_b p q e =
     let high = p.high in
     let other_high = q.high in
-    cond_both (is_told width a b) (kept_by (if taken then comparison else negated comparison) a b) (Some a) (λ o. Leaves o x)
+    cond_both (is_informative width a b) (kept_by (if taken then comparison else negated comparison) a b) (Some a) (λ o. Leaves o x)
     (λ t.
     let parts = and_parts (nat_lt a.high (modulus width)) (nat_lt b.high (modulus width)) t in
     let left : a.high < modulus width = ltb-true a.high (modulus width) parts.0 in
     let right : b.high < modulus width = ltb-true b.high (modulus width) parts.1 in
-    let same : compared comparison width x y ≡ taken = sym (holds_of_told comparison width x y (omega arith) (omega arith)) ∙ e in
-    way_leaves comparison width taken a b x y p q same)
+    let same : compared comparison width x y ≡ taken = sym (holds_of_answered comparison width x y (omega arith) (omega arith)) ∙ e in
+    successor_leaves comparison width taken a b x y p q same)
     (λ _. (a, refl, p))
 
 -- ---- kinds
 
--- what a conditional jump tells of kinds is a kind of the verifier
+-- what a conditional jump says of kinds is a kind of the verifier
 pub refined_is_kind : (comparison : Comparison) (width : Width) (taken : Bool) (a b : Kind) → IsKind a → IsKind b → IfSome (refined_kind comparison width taken a b) IsKind
 refined_is_kind comparison width taken (Scalar a) (Scalar b) p q = mapped (refined comparison width taken a b) (refined_is_normal comparison width taken a b p q)
   where

@@ -112,18 +112,18 @@ known_under_trans extra a b None p q = tt
 known_under_trans extra a b (Some outer) p (middle, is, within) = grind (arith, kind_under_trans)
 
 -- a slot under one that keeps a kind knows the same bytes to hold numbers
-pub under_places : (extra : ℕ) (a b : Kind) → IsKindUnder extra a b → number_bytes (Kept a) ≡ number_bytes (Kept b)
-under_places extra a (Scalar outer) (inner, is, within) = ap (λ k. number_bytes (Kept k)) is
-under_places extra a (Context offset) is = ap (λ k. number_bytes (Kept k)) is
-under_places extra a (Stack offset) is = ap (λ k. number_bytes (Kept k)) is
-under_places extra a (MapValue m offsets) (inner, is, within) = ap (λ k. number_bytes (Kept k)) is
-under_places extra a (MaybeValue m id) is = ap (λ k. number_bytes (Kept k)) is
-under_places extra a (MapName m) is = ap (λ k. number_bytes (Kept k)) is
+pub under_mask : (extra : ℕ) (a b : Kind) → IsKindUnder extra a b → number_bytes (Kept a) ≡ number_bytes (Kept b)
+under_mask extra a (Scalar outer) (inner, is, within) = ap (λ k. number_bytes (Kept k)) is
+under_mask extra a (Context offset) is = ap (λ k. number_bytes (Kept k)) is
+under_mask extra a (Stack offset) is = ap (λ k. number_bytes (Kept k)) is
+under_mask extra a (MapValue m offsets) (inner, is, within) = ap (λ k. number_bytes (Kept k)) is
+under_mask extra a (MaybeValue m id) is = ap (λ k. number_bytes (Kept k)) is
+under_mask extra a (MapName m) is = ap (λ k. number_bytes (Kept k)) is
 
 slot_under_trans : (extra : ℕ) (a b c : StackSlot) → IsSlotUnder extra a b → IsSlotBelow b c → IsSlotUnder extra a c
 slot_under_trans extra a b (Kept outer) p (middle, is, within) = grind (arith, kind_under_trans)
 slot_under_trans extra a (Kept kind) (Bytes set) (inner, is, within) q =
-    ap (λ slot. bit_and (number_bytes slot) set) is ∙ ap (λ n. bit_and n set) (under_places extra inner kind within) ∙ q
+    ap (λ slot. bit_and (number_bytes slot) set) is ∙ ap (λ n. bit_and n set) (under_mask extra inner kind within) ∙ q
 slot_under_trans extra a (Bytes more) (Bytes set) p q =
     ap (bit_and (number_bytes a)) (sym q) ∙ sym (and_assoc set (number_bytes a) more) ∙ ap (λ n. bit_and n set) p ∙ q
 

@@ -22,7 +22,7 @@ use Rattle.verifier_kinds.proofs.Ranges.{divided_by_least_left, divided_by_least
 
 -- ---- the offsets that a pointer may have
 
--- what is between the ends meets what offsets meet
+-- what is between the ends fulfils what offsets meet
 pub are_offsets : (align : Align) (low high : ℕ) → low ≤ high → low % factor align ≡ 0 → high ≤ 131072 → AreOffsets (offsets_in (normal low high align))
 are_offsets align low high ordered divided h = grind (arith, last_below, normal_is_normal)
 

@@ -98,7 +98,7 @@ abbrev pub swapped_range : Range → Range
 swapped_range b = if is_constant b then between 0 (greatest_of_bits b.low) One else all Bits64 One
 
 -- What an operation makes of two ranges of its width, the ends raw; where a result may wrap, it is all
--- numbers. The field offset of a division and of a move tells their signed forms.
+-- numbers. The field offset of a division and of a move gives their signed forms.
 unfoldable pub row : AluCode → Width → ℤ → Range → Range → Range
 row Add width offset a b = sum_of width a b
 row Sub width offset a b = difference_of width a b
@@ -157,7 +157,7 @@ within_value m align (pos low) (pos high) = if nat_le high 131072 then Ok (MapVa
 within_value m align low high = Err outside_map
 
 -- A pointer to a map's value is moved by any number, and moved back by a constant; what it may become there is
--- told of the alignment and the two ends.
+-- reported of the alignment and the two ends.
 abbrev pub displaced_by : (Align → ℤ → ℤ → Result Kind ℕ) → AluCode → Width → Offsets → Range → Result Kind ℕ
 displaced_by within Add Bits64 offsets by =
     within (least_align offsets.align by.align) (pos offsets.low +ℤ signed_offset by by.low) (pos offsets.high +ℤ signed_offset by by.high)

@@ -30,20 +30,20 @@ abbrev pub with_unset : Description → ℕ → Description
 with_unset d i = record d { registers = slice_set d.registers i None }
 
 -- the kind once it is known what kind the answer of a call is of
-abbrev pub settled_kind : ℕ → Kind → Kind → Kind
-settled_kind call to (MaybeValue m id) = if id == call then to else MaybeValue m id
-settled_kind call to kind = kind
+abbrev pub resolved_kind : ℕ → Kind → Kind → Kind
+resolved_kind call to (MaybeValue m id) = if id == call then to else MaybeValue m id
+resolved_kind call to kind = kind
 
 -- the same of a slot of the stack
-abbrev pub settled_slot : ℕ → Kind → StackSlot → StackSlot
-settled_slot call to (Kept kind) = Kept (settled_kind call to kind)
-settled_slot call to (Bytes set) = Bytes set
+abbrev pub resolved_slot : ℕ → Kind → StackSlot → StackSlot
+resolved_slot call to (Kept kind) = Kept (resolved_kind call to kind)
+resolved_slot call to (Bytes set) = Bytes set
 
 -- the description once it is known what kind the answer of a call is of: of each register and each slot
 -- that keeps it
 unfoldable pub with_answer_known : ℕ → Kind → Description → Description
 with_answer_known call to d =
-    record { registers = map (option_map (settled_kind call to)) d.registers; stack = map (settled_slot call to) d.stack }
+    record { registers = map (option_map (resolved_kind call to)) d.registers; stack = map (resolved_slot call to) d.stack }
 
 -- at the start R1 is the context's address and R10 the stack's end, and nothing else is known
 abbrev pub start_description : Description
@@ -112,7 +112,7 @@ abbrev pub IsSlotBelow : StackSlot → StackSlot → Type 0
 IsSlotBelow slot (Kept outer) = (inner : Kind) × (slot ≡ Kept inner) × IsKindBelow inner outer
 IsSlotBelow slot (Bytes set) = bit_and (number_bytes slot) set ≡ set
 
--- the description says at least as much as another, place by place
+-- the description says at least as much as another, offset by offset
 pub record IsDescriptionBelow (d e : Description) : Type 0 where
   pub registers : (i : ℕ) → IsBelow (register_of d i) (register_of e i)
   pub slots : (k : ℕ) → IsSlotBelow (slot_of d k) (slot_of e k)
@@ -132,7 +132,7 @@ abbrev pub join_of_slots : StackSlot → StackSlot → StackSlot
 join_of_slots (Kept a) (Kept b) = kept_or_bytes (join_of_kinds a b) 0
 join_of_slots a b = Bytes (bit_and (number_bytes a) (number_bytes b))
 
--- two lists, merged place by place
+-- two lists, merged offset by offset
 abbrev pub joined_with : {X : Type 0} → (X → X → X) → List X → List X → List X
 joined_with f (x ∷ xs) (y ∷ ys) = f x y ∷ joined_with f xs ys
 joined_with f xs ys = []

@@ -1,4 +1,4 @@
--- What a conditional jump tells of dst on each of its two ways (this project's own profile).
+-- What a conditional jump says of dst on each of its two ways (this project's own profile).
 use Rattle.std.specs.Prelude.{ℕ, ◌+◌, ◌-◌, ◌==◌, nat_lt, nat_le, min, max, Bool, ◌&&◌, if◌then◌else◌, Option, Some, None, option_map}
 use Rattle.bpf_decode.specs.declared.insn.Insn.{Insn}
 use Rattle.bpf_decode.specs.declared.operation.Width.{Width}
@@ -23,7 +23,7 @@ abbrev pub without_end : Range → ℕ → Option Range
 without_end a n =
     some_of (between (if a.low == n then a.low + 1 else a.low) (if a.high == n then a.high - 1 else a.high) a.align)
 
--- the comparison that holds where another doesn't; one that tells nothing of a range stands for itself
+-- the comparison that holds where another doesn't; one that says nothing of a range stands for itself
 abbrev pub negated : Comparison → Comparison
 negated Equal = NotEqual
 negated NotEqual = Equal
@@ -43,14 +43,14 @@ kept_by Less a b = if b.high == 0 then None else some_of (between a.low (min a.h
 kept_by LessOrEqual a b = some_of (between a.low (min a.high b.high) a.align)
 kept_by other a b = Some a
 
--- a comparison of a width tells something of ranges within its numbers alone
-abbrev pub is_told : Width → Range → Range → Bool
-is_told width a b = nat_lt a.high (modulus width) && nat_lt b.high (modulus width)
+-- a comparison of a width says something of ranges within its numbers alone
+abbrev pub is_informative : Width → Range → Range → Bool
+is_informative width a b = nat_lt a.high (modulus width) && nat_lt b.high (modulus width)
 
 -- what is known of a where the jump is taken, or isn't; None: nothing goes that way
 abbrev pub refined : Comparison → Width → Bool → Range → Range → Option Range
 refined comparison width taken a b =
-    if is_told width a b then kept_by (if taken then comparison else negated comparison) a b else Some a
+    if is_informative width a b then kept_by (if taken then comparison else negated comparison) a b else Some a
 
 -- the same of kinds that are numbers
 abbrev pub refined_kind : Comparison → Width → Bool → Kind → Kind → Option Kind

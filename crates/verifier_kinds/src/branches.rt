@@ -1,17 +1,17 @@
-//! What a conditional jump tells of dst on each of its two ways (this project's own profile).
+//! What a conditional jump says of dst on each of its two ways (this project's own profile).
 
 ghost use Rattle.std.specs.Prelude.{◌≡◌, ◌+◌, ◌-◌, ◌^◌, ◌<◌, min, max, IfSome};
 ghost use Rattle.insn_alu.specs.Comparisons.{IsBranch};
 ghost use Rattle.verifier_kinds.specs.Arithmetic.{between};
 ghost use Rattle.verifier_kinds.specs.Kinds.{IsKind, IsNormal, factor, greatest_align};
-ghost use Rattle.verifier_kinds.specs.Refinement.{is_told, kept_by, negated, refine_of, refined, some_of, without_end};
+ghost use Rattle.verifier_kinds.specs.Refinement.{is_informative, kept_by, negated, refine_of, refined, some_of, without_end};
 
 use crate::kind::{Align, Kind, Range};
 use bpf_decode::{Comparison, Insn, Operation, Width};
 
 /// The kind of dst where a conditional jump is taken, or isn't; `a` is what it is before, and `b` the
 /// kind of the second operand. `None`: no number goes that way. Only numbers are compared with
-/// numbers: of any other kind nothing is told.
+/// numbers: of any other kind nothing is reported.
 #[tactic(auto, using(crate::proofs::Refinement::refined_is_kind))]
 pub fn refine(insn: &Insn, taken: bool, a: Kind, b: Kind) -> Option<Kind>
     requires branch { IsBranch insn.now }
@@ -48,7 +48,7 @@ pub fn refined(
     ensures range { result ≡ refined comparison width taken a b }
     ensures normal { IfSome result IsNormal }
 {
-    if !is_told(width, a, b) {
+    if !is_informative(width, a, b) {
         return Some(a);
     }
     let comparison = if taken {
@@ -59,11 +59,11 @@ pub fn refined(
     kept_by(comparison, a, b)
 }
 
-/// A comparison of 32 bits tells something of ranges within its numbers alone.
-fn is_told(width: Width, a: Range, b: Range) -> bool
+/// A comparison of 32 bits says something of ranges within its numbers alone.
+fn is_informative(width: Width, a: Range, b: Range) -> bool
     requires left { IsNormal a }
     requires right { IsNormal b }
-    ensures { result ≡ is_told width a b }
+    ensures { result ≡ is_informative width a b }
 {
     match width {
         Width::Bits32 => a.high <= u64::from(u32::MAX) && b.high <= u64::from(u32::MAX),
@@ -71,7 +71,7 @@ fn is_told(width: Width, a: Range, b: Range) -> bool
     }
 }
 
-/// The comparison that holds where another doesn't; one that tells nothing of a range stands for
+/// The comparison that holds where another doesn't; one that says nothing of a range stands for
 /// itself.
 fn negated(comparison: Comparison) -> Comparison
     ensures { result ≡ negated comparison }

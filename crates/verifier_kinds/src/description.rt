@@ -1,6 +1,6 @@
 ghost use Rattle.std.specs.Prelude.{◌≡◌, ◌↔◌, ℕ, IsTrue, map, option_map, slice_index_or};
 ghost use Rattle.verifier_kinds.specs.Kinds.{IsBelow};
-ghost use Rattle.verifier_kinds.specs.Descriptions.{IsDescriptionBelow, IsSlotBelow, join_of, join_of_registers, join_of_slots, joined_with, settled_kind, settled_slot};
+ghost use Rattle.verifier_kinds.specs.Descriptions.{IsDescriptionBelow, IsSlotBelow, join_of, join_of_registers, join_of_slots, joined_with, resolved_kind, resolved_slot};
 
 use crate::kind::Kind;
 
@@ -17,7 +17,7 @@ impl StackSlot {
     ghost use Rattle.verifier_kinds.specs.Descriptions.{number_bytes};
 
     /// The bytes that are known to hold numbers, by the bits of a number: of a kept pointer none.
-    fn places(self) -> u8
+    fn mask(self) -> u8
         ensures { result ≡ number_bytes self }
     {
         match self {
@@ -36,7 +36,7 @@ impl StackSlot {
                 Some(kind) => StackSlot::Kept(kind),
                 None => StackSlot::Bytes(0),
             },
-            _ => StackSlot::Bytes(self.places() & other.places()),
+            _ => StackSlot::Bytes(self.mask() & other.mask()),
         }
     }
 
@@ -49,7 +49,7 @@ impl StackSlot {
                 StackSlot::Kept(inner) => inner.is_below(outer),
                 StackSlot::Bytes(_) => false,
             },
-            StackSlot::Bytes(set) => self.places() & set == set,
+            StackSlot::Bytes(set) => self.mask() & set == set,
         }
     }
 }
@@ -109,12 +109,12 @@ impl Description {
 
     /// Makes it known of what kind the answer of a call is: of each register and each slot of the
     /// stack that keeps it.
-    pub fn settle(&mut self, call: u32, kind: Kind)
+    pub fn resolve(&mut self, call: u32, kind: Kind)
         ensures with_answer_known { self.new ≡ with_answer_known call kind self.old }
         ensures description { IsDescription self.old → IsKind kind → IsDescription self.new }
     {
-        self.registers = settled_registers(&self.registers, call, kind);
-        self.stack = settled_stack(&self.stack, call, kind);
+        self.registers = resolved_registers(&self.registers, call, kind);
+        self.stack = resolved_stack(&self.stack, call, kind);
     }
 
     /// What is known of a slot of the stack, the lowest address first.
@@ -155,8 +155,8 @@ impl Description {
 
 impl Kind {
     /// The kind once it is known of what kind the answer of a call is.
-    fn settled(self, call: u32, kind: Kind) -> Kind
-        ensures { result ≡ settled_kind call kind self }
+    fn resolved(self, call: u32, kind: Kind) -> Kind
+        ensures { result ≡ resolved_kind call kind self }
     {
         match self {
             Kind::MaybeValue { call: c, .. } if c == call => kind,
@@ -166,38 +166,38 @@ impl Kind {
 }
 
 /// The same of a register of which something may be known.
-fn settled_register(known: Option<Kind>, call: u32, kind: Kind) -> Option<Kind>
-    ensures { result ≡ option_map (settled_kind call kind) known }
+fn resolved_register(known: Option<Kind>, call: u32, kind: Kind) -> Option<Kind>
+    ensures { result ≡ option_map (resolved_kind call kind) known }
 {
-    Some(known?.settled(call, kind))
+    Some(known?.resolved(call, kind))
 }
 
 /// The same of a slot of the stack.
-fn settled_slot(slot: StackSlot, call: u32, kind: Kind) -> StackSlot
-    ensures { result ≡ settled_slot call kind slot }
+fn resolved_slot(slot: StackSlot, call: u32, kind: Kind) -> StackSlot
+    ensures { result ≡ resolved_slot call kind slot }
 {
     match slot {
-        StackSlot::Kept(kept) => StackSlot::Kept(kept.settled(call, kind)),
+        StackSlot::Kept(kept) => StackSlot::Kept(kept.resolved(call, kind)),
         StackSlot::Bytes(set) => StackSlot::Bytes(set),
     }
 }
 
-fn settled_registers(a: &[Option<Kind>; 11], call: u32, kind: Kind) -> [Option<Kind>; 11]
-    ensures { result ≡ map (option_map (settled_kind call kind)) a.now }
+fn resolved_registers(a: &[Option<Kind>; 11], call: u32, kind: Kind) -> [Option<Kind>; 11]
+    ensures { result ≡ map (option_map (resolved_kind call kind)) a.now }
 {
     let mut registers = [None; 11];
     for i in 0..11 {
-        registers[i] = settled_register(a[i], call, kind);
+        registers[i] = resolved_register(a[i], call, kind);
     }
     registers
 }
 
-fn settled_stack(a: &[StackSlot; 64], call: u32, kind: Kind) -> [StackSlot; 64]
-    ensures { result ≡ map (settled_slot call kind) a.now }
+fn resolved_stack(a: &[StackSlot; 64], call: u32, kind: Kind) -> [StackSlot; 64]
+    ensures { result ≡ map (resolved_slot call kind) a.now }
 {
     let mut stack = [StackSlot::Bytes(0); 64];
     for k in 0..64 {
-        stack[k] = settled_slot(a[k], call, kind);
+        stack[k] = resolved_slot(a[k], call, kind);
     }
     stack
 }

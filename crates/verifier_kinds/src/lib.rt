@@ -1,5 +1,5 @@
 //! What the verifier knows of a register or of a slot of the stack: kinds, their order, what
-//! arithmetic makes of them, and what a conditional jump tells of them (this project's own profile;
+//! arithmetic makes of them, and what a conditional jump says of them (this project's own profile;
 //! docs/VERIFIER.md has its tables).
 #![tactic(auto)]
 

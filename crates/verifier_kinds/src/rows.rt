@@ -74,7 +74,7 @@ fn all(width: Width, align: Align) -> Range
 }
 
 /// What an operation makes of two ranges of its width, the ends raw. Where a result may wrap, it is
-/// all numbers. The field `offset` tells the signed forms.
+/// all numbers. The field `offset` gives the signed forms.
 #[tactic(auto, unfolding(crate::specs::Arithmetic::row))]
 fn row(code: AluCode, width: Width, offset: i16, a: Range, b: Range) -> Range
     requires left { IsNormal a }

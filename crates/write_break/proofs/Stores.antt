@@ -3,15 +3,15 @@ use Rattle.std.proofs.Common.{◌≡◌, ◌∙◌, ◌⊎◌, ⊎_elim, ℕ, ze
 use Rattle.std.proofs.lemmas.List.{get_or-set_same, set-get_or, set-set, append_assoc, length-append, length-take, take_at, drop_at, drop-drop}
 use Rattle.host_types.specs.Bytes.{with_part}
 use Rattle.host_types.specs.Memory.{FlatMap, FlatMaps, map_at}
-use Rattle.host_types.specs.Sharing.{Sharing, state_at, is_shared_page, broken, break_cost, broken_from, cost_from}
-use Rattle.host_types.specs.Pins.{broken_by, broken_by_from}
+use Rattle.host_types.specs.Sharing.{Sharing, state_at, is_shared_page, broken, break_cost, pages_broken, cost_from}
+use Rattle.host_types.specs.Pins.{broken_for_run, broken_for_run_from}
 use Rattle.host_types.proofs.Unmerging.{broken-own, broken-shared}
 use Rattle.host_types.proofs.Pins.{cost-by}
 use Rattle.host_types.specs.Tenant.{TenantPart}
 use Rattle.page_table.specs.State.{MemoryState, part, map_bytes, have_of}
 use Rattle.page_table.specs.Changes.{map_written, part_written, KeepsSettings}
 use Rattle.page_table.proofs.Creating.{with_part-none}
-use Rattle.write_break.specs.Stores.{touched, place_of_byte, pinned_as, stored_sharing, store_frames, IsStored}
+use Rattle.write_break.specs.Stores.{touched, page_of_byte, with_pins_of, stored_sharing, store_frames, IsStored}
 
 -- some bytes lie on the pages from their first one to their last one
 pub touched-some : (at n : ℕ) → 0 < n → touched at n ≡ (at + n - 1) / 4096 - at / 4096 + 1
@@ -45,7 +45,7 @@ unfolding touched
 touched-two at zero small = omega arith
 touched-two at (suc n) small = omega arith
 
--- bytes up to the end of a page, and more behind it
+-- bytes up to the end of a page, and more after it
 pub touched-more : (at size rest : ℕ) → 0 < size → at % 4096 + size ≡ 4096 → touched at (size + rest) ≡ suc (touched (at + size) rest)
 unfolding touched
 touched-more at zero rest some ends = absurd (omega arith)
@@ -60,60 +60,60 @@ touched-more at (suc n) (suc rest) some ends =
 
 module _ (s : Sharing) (tenant m at size : ℕ) (some : 0 < size) (in_page : at % 4096 + size ≤ 4096) where
   -- the bytes of one page break that page
-  pub sharing-one : (running : Bool) → stored_sharing running s tenant m at size ≡ broken_by running s (place_of_byte tenant m at)
-  unfolding broken_by_from
-  sharing-one running = ap (broken_by_from running s (place_of_byte tenant m at)) (touched-one at size some in_page)
+  pub sharing-one : (running : Bool) → stored_sharing running s tenant m at size ≡ broken_for_run running s (page_of_byte tenant m at)
+  unfolding broken_for_run_from
+  sharing-one running = ap (broken_for_run_from running s (page_of_byte tenant m at)) (touched-one at size some in_page)
 
-  pub cost-one : store_frames s tenant m at size ≡ break_cost s (place_of_byte tenant m at)
+  pub cost-one : store_frames s tenant m at size ≡ break_cost s (page_of_byte tenant m at)
   unfolding cost_from
-  cost-one = ap (cost_from s (place_of_byte tenant m at)) (touched-one at size some in_page) ∙ omega arith
+  cost-one = ap (cost_from s (page_of_byte tenant m at)) (touched-one at size some in_page) ∙ omega arith
 
-  behind : at % 4096 + size ≡ 4096 → place_of_byte tenant m (at + size) ≡ place_of_byte tenant m at + 1
-  behind ends = omega arith
+  following : at % 4096 + size ≡ 4096 → page_of_byte tenant m (at + size) ≡ page_of_byte tenant m at + 1
+  following ends = omega arith
 
   -- the first page is broken, and then the others
   pub sharing-more : (running : Bool) (rest : ℕ) → (rest ≡ 0) ⊎ (at % 4096 + size ≡ 4096)
-      → stored_sharing running s tenant m at (size + rest) ≡ stored_sharing running (broken_by running s (place_of_byte tenant m at)) tenant m (at + size) rest
-  unfolding broken_by_from touched
+      → stored_sharing running s tenant m at (size + rest) ≡ stored_sharing running (broken_for_run running s (page_of_byte tenant m at)) tenant m (at + size) rest
+  unfolding broken_for_run_from touched
   sharing-more running rest whole =
       ⊎_elim
       (λ none.
       let same : size + rest ≡ size = omega arith in
       ap (stored_sharing running s tenant m at) same ∙ sharing-one running
-      ∙ sym (ap (stored_sharing running (broken_by running s (place_of_byte tenant m at)) tenant m (at + size)) none))
+      ∙ sym (ap (stored_sharing running (broken_for_run running s (page_of_byte tenant m at)) tenant m (at + size)) none))
       (λ ends.
-      ap (broken_by_from running s (place_of_byte tenant m at)) (touched-more at size rest some ends)
-      ∙ ap (λ (place : ℕ). broken_by_from running (broken_by running s (place_of_byte tenant m at)) place (touched (at + size) rest)) (sym (behind ends)))
+      ap (broken_for_run_from running s (page_of_byte tenant m at)) (touched-more at size rest some ends)
+      ∙ ap (λ (offset : ℕ). broken_for_run_from running (broken_for_run running s (page_of_byte tenant m at)) offset (touched (at + size) rest)) (sym (following ends)))
       whole
 
   cost-own : (rest : ℕ) → (rest ≡ 0) ⊎ (at % 4096 + size ≡ 4096)
-      → store_frames s tenant m at (size + rest) ≡ break_cost s (place_of_byte tenant m at) + store_frames (broken s (place_of_byte tenant m at)) tenant m (at + size) rest
+      → store_frames s tenant m at (size + rest) ≡ break_cost s (page_of_byte tenant m at) + store_frames (broken s (page_of_byte tenant m at)) tenant m (at + size) rest
   unfolding cost_from touched
   cost-own rest whole =
       ⊎_elim
       (λ none.
       let same : size + rest ≡ size = omega arith in
-      let nothing : store_frames (broken s (place_of_byte tenant m at)) tenant m (at + size) rest ≡ 0 = ap (store_frames (broken s (place_of_byte tenant m at)) tenant m (at + size)) none in
+      let nothing : store_frames (broken s (page_of_byte tenant m at)) tenant m (at + size) rest ≡ 0 = ap (store_frames (broken s (page_of_byte tenant m at)) tenant m (at + size)) none in
       let all = ap (store_frames s tenant m at) same ∙ cost-one in
       omega (arith, all, nothing))
       (λ ends.
-      ap (cost_from s (place_of_byte tenant m at)) (touched-more at size rest some ends)
-      ∙ ap (λ (place : ℕ). break_cost s (place_of_byte tenant m at) + cost_from (broken s (place_of_byte tenant m at)) place (touched (at + size) rest)) (sym (behind ends)))
+      ap (cost_from s (page_of_byte tenant m at)) (touched-more at size rest some ends)
+      ∙ ap (λ (offset : ℕ). break_cost s (page_of_byte tenant m at) + cost_from (broken s (page_of_byte tenant m at)) offset (touched (at + size) rest)) (sym (following ends)))
       whole
 
   -- whether or not the first page is pinned
   pub cost-more : (running : Bool) (rest : ℕ) → (rest ≡ 0) ⊎ (at % 4096 + size ≡ 4096)
-      → store_frames s tenant m at (size + rest) ≡ break_cost s (place_of_byte tenant m at) + store_frames (broken_by running s (place_of_byte tenant m at)) tenant m (at + size) rest
+      → store_frames s tenant m at (size + rest) ≡ break_cost s (page_of_byte tenant m at) + store_frames (broken_for_run running s (page_of_byte tenant m at)) tenant m (at + size) rest
   cost-more running rest whole =
       cost-own rest whole
-      ∙ ap (λ (n : ℕ). break_cost s (place_of_byte tenant m at) + n)
-      (sym (cost-by running s (place_of_byte tenant m at) (place_of_byte tenant m (at + size)) (touched (at + size) rest)))
+      ∙ ap (λ (n : ℕ). break_cost s (page_of_byte tenant m at) + n)
+      (sym (cost-by running s (page_of_byte tenant m at) (page_of_byte tenant m (at + size)) (touched (at + size) rest)))
 
 -- the bytes of what may be a map
 abbrev bytes_in : Option FlatMap → List ℕ
 bytes_in flat = unwrap_or (option_map (λ (flat : FlatMap). flat.bytes) flat) []
 
--- a map that is there has a place
+-- a map that is there has an index
 map_inside : (maps : FlatMaps) (m : ℕ) (flat : FlatMap) → map_at maps m ≡ Some flat → m < length maps
 map_inside [] m flat e = absurd (cc)
 map_inside (x ∷ maps) zero flat e = omega arith
@@ -172,7 +172,7 @@ have-kept old new same kept = rw (same, kept.frames, kept.tenants) refl
 
 -- no bytes stored
 pub stored-none : (is_pinned : Bool) (memory : MemoryState) (tenant m at : ℕ) → IsStored is_pinned memory memory tenant m at []
-unfolding broken_by_from cost_from touched part
+unfolding broken_for_run_from cost_from touched part
 stored-none is_pinned memory tenant m at = record {
   written = part_written-none (part memory tenant) m at;
   bytes = with_part-none (map_bytes (part memory tenant) m) at;
@@ -184,7 +184,7 @@ stored-none is_pinned memory tenant m at = record {
   settings = record { tenants = refl; frames = refl };
 }
 
--- bytes of one page stored, and then those behind them
+-- bytes of one page stored, and then those after them
 pub stored-more : (is_pinned : Bool) (old middle new : MemoryState) (tenant m at : ℕ) (first later : List ℕ) → 0 < length first → at % 4096 + length first ≤ 4096 → (length later ≡ 0) ⊎ (at % 4096 + length first ≡ 4096)
     → at + length first ≤ length (map_bytes (part old tenant) m)
     → IsStored is_pinned old middle tenant m at first → IsStored is_pinned middle new tenant m (at + length first) later → IsStored is_pinned old new tenant m at (first ++ later)
@@ -192,13 +192,13 @@ stored-more is_pinned old middle new tenant m at first later some in_page whole 
     let long : length (first ++ later) ≡ length first + length later = length-append first later in
     let broken_one = one.sharing ∙ sharing-one old.sharing tenant m at (length first) some in_page is_pinned in
     let cost_one = cost-one old.sharing tenant m at (length first) some in_page in
-    let cost : store_frames old.sharing tenant m at (length first + length later) ≡ break_cost old.sharing (place_of_byte tenant m at) + store_frames middle.sharing tenant m (at + length first) (length later) =
+    let cost : store_frames old.sharing tenant m at (length first + length later) ≡ break_cost old.sharing (page_of_byte tenant m at) + store_frames middle.sharing tenant m (at + length first) (length later) =
     cost-more old.sharing tenant m at (length first) some in_page is_pinned (length later) whole
-    ∙ ap (λ (s : Sharing). break_cost old.sharing (place_of_byte tenant m at) + store_frames s tenant m (at + length first) (length later)) (sym broken_one) in
+    ∙ ap (λ (s : Sharing). break_cost old.sharing (page_of_byte tenant m at) + store_frames s tenant m (at + length first) (length later)) (sym broken_one) in
     record {
       written = rest.written
-          ∙ ap (λ (owned : TenantPart). pinned_as new.sharing tenant (part_written owned m (at + length first) later)) one.written
-          ∙ ap (pinned_as new.sharing tenant) (part_written-twice (part old tenant) m at first later some within);
+          ∙ ap (λ (owned : TenantPart). with_pins_of new.sharing tenant (part_written owned m (at + length first) later)) one.written
+          ∙ ap (with_pins_of new.sharing tenant) (part_written-twice (part old tenant) m at first later some within);
       bytes = rest.bytes
           ∙ ap (λ (bytes : List ℕ). with_part bytes (at + length first) later) one.bytes
           ∙ with_part-twice (map_bytes (part old tenant) m) at first later within;
@@ -216,8 +216,8 @@ stored-more is_pinned old middle new tenant m at first later some in_page whole 
 -- ---- a store by no run
 
 -- breaks by no run pin nothing
-pub broken-none : (s : Sharing) (i n : ℕ) → broken_by_from false s i n ≡ broken_from s i n
-unfolding broken_by_from broken_from broken_by
+pub broken-none : (s : Sharing) (i n : ℕ) → broken_for_run_from false s i n ≡ pages_broken s i n
+unfolding broken_for_run_from pages_broken broken_for_run
 broken-none s i zero = refl
 broken-none s i (suc n) = broken-none (broken s i) (i + 1) n
 
@@ -228,7 +228,7 @@ broken-pins s i = by_test (is_shared_page (state_at s i)) refl
     by_test true shared = ap (λ (t : Sharing). t.pins) (broken-shared s i shared)
     by_test false own = ap (λ (t : Sharing). t.pins) (broken-own s i own)
 
-pub pins-none : (s : Sharing) (i n : ℕ) → (broken_by_from false s i n).pins ≡ s.pins
-unfolding broken_by_from broken_by
+pub pins-none : (s : Sharing) (i n : ℕ) → (broken_for_run_from false s i n).pins ≡ s.pins
+unfolding broken_for_run_from broken_for_run
 pins-none s i zero = refl
 pins-none s i (suc n) = pins-none (broken s i) (i + 1) n ∙ broken-pins s i

@@ -2,8 +2,8 @@ ghost use Rattle.std.specs.Prelude.{◌≡◌, ◌⊎◌, ◌+◌, ◌/◌, ◌<
 ghost use Rattle.host_types.specs.Bytes.{number_of, bytes_of, part_of, with_part};
 ghost use Rattle.frame_arena.specs.Pages.{IsAccessSize};
 ghost use Rattle.page_table.specs.State.{part, map_bytes, have_of};
-ghost use Rattle.page_table.specs.Changes.{part_written, IsKeptBut, AreMapsKeptBut, KeepsSettings};
-ghost use Rattle.write_break.specs.Stores.{touched, part_stored, pinned_as, stored_sharing, store_frames, IsStored};
+ghost use Rattle.page_table.specs.Changes.{part_written, OtherTenantsUnchanged, AreMapsKeptBut, KeepsSettings};
+ghost use Rattle.write_break.specs.Stores.{touched, part_stored, with_pins_of, stored_sharing, store_frames, IsStored};
 
 use crate::number::word;
 use host_types::limits::PAGE_SIZE;
@@ -72,13 +72,13 @@ pub fn store(memory: &mut Memory, tenant: u32, map: MapNo, at: u32, size: u32, v
     requires aligned { at % size ≡ 0 }
     requires room { store_frames memory.old.sharing tenant map at size ≤ have_of memory.old }
     ensures stored { part memory.new tenant
-        ≡ pinned_as memory.new.sharing tenant (part_stored (part memory.old tenant) map at size value) }
+        ≡ with_pins_of memory.new.sharing tenant (part_stored (part memory.old tenant) map at size value) }
     ensures bytes { map_bytes (part memory.new tenant) map
         ≡ with_part (map_bytes (part memory.old tenant) map) at (bytes_of size value) }
     ensures length { length (map_bytes (part memory.new tenant) map)
         ≡ length (map_bytes (part memory.old tenant) map) }
     ensures other_maps { AreMapsKeptBut map (part memory.old tenant) (part memory.new tenant) }
-    ensures others { IsKeptBut tenant memory.old memory.new }
+    ensures others { OtherTenantsUnchanged tenant memory.old memory.new }
     ensures sharing { memory.new.sharing
         ≡ stored_sharing (part memory.old tenant).running memory.old.sharing tenant map at size }
     ensures have { have_of memory.new + store_frames memory.old.sharing tenant map at size ≡ have_of memory.old }
@@ -101,13 +101,13 @@ pub fn store_bytes(memory: &mut Memory, tenant: u32, map: MapNo, at: u32, bytes:
     requires within { at + length bytes.now ≤ length (map_bytes (part memory.old tenant) map) }
     requires room { store_frames memory.old.sharing tenant map at (length bytes.now) ≤ have_of memory.old }
     ensures written { part memory.new tenant
-        ≡ pinned_as memory.new.sharing tenant (part_written (part memory.old tenant) map at bytes.now) }
+        ≡ with_pins_of memory.new.sharing tenant (part_written (part memory.old tenant) map at bytes.now) }
     ensures bytes { map_bytes (part memory.new tenant) map
         ≡ with_part (map_bytes (part memory.old tenant) map) at bytes.now }
     ensures length { length (map_bytes (part memory.new tenant) map)
         ≡ length (map_bytes (part memory.old tenant) map) }
     ensures other_maps { AreMapsKeptBut map (part memory.old tenant) (part memory.new tenant) }
-    ensures others { IsKeptBut tenant memory.old memory.new }
+    ensures others { OtherTenantsUnchanged tenant memory.old memory.new }
     ensures sharing { memory.new.sharing
         ≡ stored_sharing (part memory.old tenant).running memory.old.sharing tenant map at (length bytes.now) }
     ensures have { have_of memory.new + store_frames memory.old.sharing tenant map at (length bytes.now)
@@ -134,13 +134,13 @@ pub fn store_bytes_as(
     ensures { IsStored is_pinned memory.old memory.new tenant map at bytes.now }
 {
     map_is_small(memory, tenant, map);
-    let mut place = at;
+    let mut offset = at;
     let mut rest = bytes;
     while !rest.is_empty() {
-        let size = size_in_page(place, rest);
+        let size = size_in_page(offset, rest);
         let (first, later) = rest.split_at(size);
-        store_in_page(memory, tenant, map, place, first, is_pinned);
-        place += size as u32;
+        store_in_page(memory, tenant, map, offset, first, is_pinned);
+        offset += size as u32;
         rest = later;
     }
 }

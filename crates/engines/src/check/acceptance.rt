@@ -1,15 +1,15 @@
 //! The line of a program that is accepted.
 
 ghost use Rattle.std.specs.Prelude.{◌≡◌, Some};
-ghost use Rattle.admission.specs.Reserve.{unpinned_need};
+ghost use Rattle.admission.specs.Reserve.{whole_need};
 ghost use Rattle.bpf_decode.specs.Text.{instructions_of, slots_of};
 ghost use Rattle.engines.specs.Check.{acceptance_text};
 
-use admission::unpinned;
+use admission::whole_need;
 use std::fmt;
 use verifier::Verified;
 
-/// What is told of a program that is accepted.
+/// What is reported of a program that is accepted.
 #[derive(Clone, Copy, Debug)]
 pub struct Acceptance {
     slots: u32,
@@ -23,12 +23,12 @@ impl Acceptance {
     pub fn of(program: &Verified) -> Self
         ensures slots { result.slots ≡ slots_of program.now.subject.text }
         ensures instructions { result.instructions ≡ instructions_of program.now.subject.text }
-        ensures reserve { result.reserve ≡ unpinned_need program.now }
+        ensures reserve { result.reserve ≡ whole_need program.now }
     {
         Acceptance {
             slots: program.slots(),
             instructions: program.instructions(),
-            reserve: unpinned(program),
+            reserve: whole_need(program),
         }
     }
 }

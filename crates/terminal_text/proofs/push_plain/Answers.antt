@@ -15,9 +15,9 @@ loop-escaped-preserved c =
     let front = first_plain (escape_rest c.loop-escaped.escaped-iterator) c.in-Some.escaped (escape_rest c.next.new.self) rest.1.0 c.loop-escaped.invariant.0 in (
       front.1,
       λ plain. rw (c.in_ok-push-2.ensures.bytes)
-          (plain_pushed (string_bytes c.loop-escaped.told) c.in-Some.escaped (c.loop-escaped.invariant.1 plain) front.0),
+          (plain_pushed (string_bytes c.loop-escaped.shown) c.in-Some.escaped (c.loop-escaped.invariant.1 plain) front.0),
     )
 
 pub returns-then-is_plain : goal.returns-then-is_plain
 returns-then-is_plain c = λ plain. rw (c.in_ok-push.ensures.bytes)
-    (plain_pushed (string_bytes c.args.told.now) c.args.c plain (c.is_plain.ensures.0 c.if-is_plain.true))
+    (plain_pushed (string_bytes c.args.shown.now) c.args.c plain (c.is_plain.ensures.0 c.if-is_plain.true))

@@ -6,4 +6,4 @@ use Rattle.terminal_text.proofs.push_plain.Given as goal
 
 abbrev pub invariant-loop-escaped : goal.invariant-loop-escaped
 invariant-loop-escaped l = All IsPlain (escape_rest l.escaped-iterator)
-    × (IsPlainText (string_bytes l.initial.told) → IsPlainText (string_bytes l.told))
+    × (IsPlainText (string_bytes l.initial.shown) → IsPlainText (string_bytes l.shown))

@@ -3,4 +3,4 @@ use Rattle.terminal_text.specs.Plain.{IsPlainText}
 use Rattle.terminal_text.proofs.quoted.Given as goal
 
 abbrev pub invariant-loop-c : goal.invariant-loop-c
-invariant-loop-c l = IsPlainText (string_bytes l.told)
+invariant-loop-c l = IsPlainText (string_bytes l.shown)

@@ -1,8 +1,8 @@
 use Rattle.std.proofs.Common.{◌≡◌, ◌∙◌, ◌*◌, ◌%◌, ap, arith}
-use Rattle.host_types.specs.Pins.{broken_by}
+use Rattle.host_types.specs.Pins.{broken_for_run}
 use Rattle.host_types.specs.Sharing.{break_cost}
 use Rattle.page_table.specs.State.{part}
-use Rattle.write_break.specs.Stores.{place_of_byte}
+use Rattle.write_break.specs.Stores.{page_of_byte}
 use Rattle.write_break.proofs.Stores.{sharing-one, cost-one}
 use Rattle.bench_memory.proofs.Breaks.{cost-again}
 use Rattle.bench_memory.proofs.runs.stores.Goals as goal
@@ -18,18 +18,18 @@ loop-turn-init c =
 
 pub store-requires-in-loop-turn-clause-room : goal.store-requires-in-loop-turn-clause-room
 store-requires-in-loop-turn-clause-room c =
-    let first : place_of_byte 0 0 (c.loop-turn.turn % 512 * 8) ≡ 0 = omega arith in
+    let first : page_of_byte 0 0 (c.loop-turn.turn % 512 * 8) ≡ 0 = omega arith in
     let cost = cost-one c.loop-turn.memory.sharing 0 0 (c.loop-turn.turn % 512 * 8) 8 (omega arith) (omega arith) in
     let none = ap (break_cost c.loop-turn.memory.sharing) first in
     omega (arith, cost, none, c.loop-turn.invariant.own)
 
 pub loop-turn-preserved : goal.loop-turn-preserved
 loop-turn-preserved c =
-    let first : place_of_byte 0 0 (c.loop-turn.turn % 512 * 8) ≡ 0 = omega arith in
+    let first : page_of_byte 0 0 (c.loop-turn.turn % 512 * 8) ≡ 0 = omega arith in
     let running = (part c.loop-turn.memory 0).running in
     let sharing = c.store-in-loop-turn.ensures.sharing
     ∙ sharing-one c.loop-turn.memory.sharing 0 0 (c.loop-turn.turn % 512 * 8) 8 (omega arith) (omega arith) running
-    ∙ ap (broken_by running c.loop-turn.memory.sharing) first in
+    ∙ ap (broken_for_run running c.loop-turn.memory.sharing) first in
     record {
       there = omega (arith, c.store-in-loop-turn.ensures.length, c.loop-turn.invariant.there);
       own = ap (λ s. break_cost s 0) sharing ∙ cost-again running c.loop-turn.memory.sharing 0;

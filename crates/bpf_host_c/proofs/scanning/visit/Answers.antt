@@ -17,5 +17,5 @@ pub returns : goal.returns
 returns c = λ x stands.
     let all : c.loop.counter ≡ c.args.visits = omega (arith, c.loop.auto.counter-end, c.loop-test.false) in
     let visited = c.loop.invariant x stands in
-    let told = c.apply-2.ensures visited.0 visited.1 in
-    (told.0, told.1, (visited.0, subst (λ n. Visits n x visited.0) all visited.2, (told.2, told.3, told.4)))
+    let counted = c.apply-2.ensures visited.0 visited.1 in
+    (counted.0, counted.1, (visited.0, subst (λ n. Visits n x visited.0) all visited.2, (counted.2, counted.3, counted.4)))

@@ -1,6 +1,6 @@
 use Rattle.std.proofs.Common.{◌≡◌, ◌+◌, ◌-◌, ◌∙◌, ap, length, take, drop}
 use Rattle.host_types.specs.Bytes.{bytes_of, with_part}
-use Rattle.host_types.proofs.Bytes.{length-bytes_of}
+use Rattle.host_types.proofs.LittleEndian.{length-bytes_of}
 use Rattle.host_types.proofs.Lists.{length-part_of}
 use Rattle.frame_arena.proofs.Parts.{put_mid-with_part, part-range}
 use Rattle.frame_arena.proofs.block.put_number.Goals as goal

@@ -1,6 +1,6 @@
 use Rattle.std.proofs.Common.{◌≡◌, ◌∙◌, length, arith}
 use Rattle.frame_arena.proofs.Numbers.{written-whole, bytes_of-one}
-use Rattle.host_types.proofs.Bytes.{bytes_of-two, bytes_of-four}
+use Rattle.host_types.proofs.LittleEndian.{bytes_of-two, bytes_of-four}
 use Rattle.frame_arena.proofs.number.write_number.Goals as goal
 
 pub returns-in-1 : goal.returns-in-1

@@ -9,7 +9,7 @@ answer : (c : goal.After-from-2) → lookup_answer c.args.shape c.args.map c.arg
 unfolding lookup_answer
 answer c =
     let counted : nat_lt c.args.key c.args.shape.entries ≡ true = grind (arith, nat_tests) in
-    rw (counted, c.from.ensures, c.from-2.ensures, c.element_at.ensures.place) refl
+    rw (counted, c.from.ensures, c.from-2.ensures, c.element_at.ensures.offset) refl
 
 pub returns-clause-element : goal.returns-clause-element
 returns-clause-element c there =

@@ -4,7 +4,7 @@ use Rattle.host_types.specs.Memory.{FlatMaps, map_at}
 use Rattle.host_types.specs.Tenant.{TenantPart}
 use Rattle.page_table.specs.State.{part, have_of}
 use Rattle.page_table.specs.Changes.{part_written}
-use Rattle.write_break.specs.Stores.{pinned_as, stored_sharing, store_frames}
+use Rattle.write_break.specs.Stores.{with_pins_of, stored_sharing, store_frames}
 use Rattle.map_helpers.specs.Answers.{refusal_answer}
 use Rattle.map_helpers.specs.Updates.{update_frames, part_updated}
 use Rattle.map_helpers.proofs.Updates.{shape_in, helped, maps-refused, maps-written, cost-refused, cost-written, sharing-refused, sharing-written, value-sized}
@@ -59,19 +59,19 @@ module _ (c : After-element_at) where
   cost =
       cost-written c.in-Some.shape c.args.memory.now.sharing c.args.tenant c.args.map c.args.key c.args.flags (map_at (part c.args.memory.now c.args.tenant).maps c.args.map) found answered
       ∙ ap (store_frames c.args.memory.now.sharing c.args.tenant c.args.map (element_at c.in-Some.shape c.args.key)) sized
-      ∙ ap (λ (at : ℕ). store_frames c.args.memory.now.sharing c.args.tenant c.args.map at (length c.args.value.now)) (sym c.element_at.ensures.place)
+      ∙ ap (λ (at : ℕ). store_frames c.args.memory.now.sharing c.args.tenant c.args.map at (length c.args.value.now)) (sym c.element_at.ensures.offset)
 
 pub store_bytes_as-requires-clause-room : goal.store_bytes_as-requires-clause-room
 store_bytes_as-requires-clause-room c = subst (λ (n : ℕ). n ≤ have_of c.args.memory.now) (cost c) c.requires.room
 
 -- the part after the store
 written : (c : goal.After-store_bytes_as) → part c.store_bytes_as.new.memory c.args.tenant
-    ≡ pinned_as c.store_bytes_as.new.memory.sharing c.args.tenant (part_updated (part c.args.memory.now c.args.tenant) c.args.map c.args.key c.args.value.now c.args.flags)
+    ≡ with_pins_of c.store_bytes_as.new.memory.sharing c.args.tenant (part_updated (part c.args.memory.now c.args.tenant) c.args.map c.args.key c.args.value.now c.args.flags)
 written c =
     let here = (goal.at.returns-clause-part c).After-element_at in
     c.store_bytes_as.ensures.written
-    ∙ ap (λ (at : ℕ). pinned_as c.store_bytes_as.new.memory.sharing c.args.tenant (part_written (part c.args.memory.now c.args.tenant) c.args.map at c.args.value.now)) c.element_at.ensures.place
-    ∙ ap (λ (maps : FlatMaps). pinned_as c.store_bytes_as.new.memory.sharing c.args.tenant (record (part c.args.memory.now c.args.tenant) { maps = maps }))
+    ∙ ap (λ (at : ℕ). with_pins_of c.store_bytes_as.new.memory.sharing c.args.tenant (part_written (part c.args.memory.now c.args.tenant) c.args.map at c.args.value.now)) c.element_at.ensures.offset
+    ∙ ap (λ (maps : FlatMaps). with_pins_of c.store_bytes_as.new.memory.sharing c.args.tenant (record (part c.args.memory.now c.args.tenant) { maps = maps }))
     (maps-written c.in-Some.shape c.args.key c.args.value.now c.args.flags (part c.args.memory.now c.args.tenant).maps c.args.map (found here) (answered here))
 
 pub returns-clause-helped : goal.returns-clause-helped
@@ -91,7 +91,7 @@ returns-clause-sharing c =
     let here = (goal.at.returns-clause-sharing c).After-element_at in
     c.store_bytes_as.ensures.sharing
     ∙ ap (stored_sharing c.args.is_pinned c.args.memory.now.sharing c.args.tenant c.args.map c.element_at.result) (sym (sized here))
-    ∙ ap (λ (at : ℕ). stored_sharing c.args.is_pinned c.args.memory.now.sharing c.args.tenant c.args.map at c.in-Some.shape.value_size) c.element_at.ensures.place
+    ∙ ap (λ (at : ℕ). stored_sharing c.args.is_pinned c.args.memory.now.sharing c.args.tenant c.args.map at c.in-Some.shape.value_size) c.element_at.ensures.offset
     ∙ sym (sharing-written c.in-Some.shape c.args.is_pinned c.args.memory.now.sharing c.args.tenant c.args.map c.args.key c.args.flags (map_at (part c.args.memory.now c.args.tenant).maps c.args.map) (found here) (answered here))
 
 pub returns-clause-have : goal.returns-clause-have

@@ -23,12 +23,12 @@ returns-in-None-clause-needs c =
     let there : shape_in (map_at (part c.args.memory.now c.args.tenant).maps c.args.map) ≡ Some c.in-Some.shape = sym c.shape.ensures.shape ∙ c.in-Some.is in
     let answered = c.update_error.ensures.refused ∙ ap is_none c.in-None.is in
     let cost = cost-written c.in-Some.shape c.args.memory.now.sharing c.args.tenant c.args.map c.args.key c.args.flags (map_at (part c.args.memory.now c.args.tenant).maps c.args.map) there answered in
-    rw (c.element_at.ensures.place) at c.needs.ensures.cost ∙ sym cost
+    rw (c.element_at.ensures.offset) at c.needs.ensures.cost ∙ sym cost
 
 pub returns-in-None-clause-charged : goal.returns-in-None-clause-charged
 returns-in-None-clause-charged c =
     let there : shape_in (map_at (part c.args.memory.now c.args.tenant).maps c.args.map) ≡ Some c.in-Some.shape = sym c.shape.ensures.shape ∙ c.in-Some.is in
     let valid = shape-valid c.in-Some.shape (map_at (part c.args.memory.now c.args.tenant).maps c.args.map) there c.shape.ensures.valid in
     let charged = cost-charged c.args.memory.now.sharing c.args.tenant c.args.map c.args.key c.in-Some.shape valid in
-    let few : c.needs.result ≤ update_charge c.in-Some.shape = subst (λ n. n ≤ update_charge c.in-Some.shape) (sym (rw (c.element_at.ensures.place) at c.needs.ensures.cost)) charged in
+    let few : c.needs.result ≤ update_charge c.in-Some.shape = subst (λ n. n ≤ update_charge c.in-Some.shape) (sym (rw (c.element_at.ensures.offset) at c.needs.ensures.cost)) charged in
     of_shape (λ (shape : Shape). c.needs.result ≤ update_charge shape) c.in-Some.shape (map_at (part c.args.memory.now c.args.tenant).maps c.args.map) there few

@@ -3,7 +3,7 @@ use Rattle.page_table.proofs.Partners.{pass-ended, ahead-next}
 use Rattle.page_table.proofs.search.end_if_done.Goals as goal
 use Rattle.page_table.proofs.search.end_if_done.Goals.{After-is_some}
 
--- the page that is found behind a place
+-- the page that is found after an index
 abbrev next : TableState → ℕ → Option ℕ
 next table c = first_mergeable (c + 1) (drop (c + 1) (states_of table.entries))
 

@@ -1,7 +1,7 @@
 use Rattle.page_table.proofs.Base.{◌≡◌, ◌+◌, ◌*◌, ◌≤◌, drop, first_mergeable, states_of}
 use Rattle.page_table.proofs.search.next_mergeable.Given as goal
 
--- no page before the place may be merged, and the place is in the map or at its end
+-- no page before the index may be merged, and the index is in the map or at its end
 abbrev pub invariant-loop-index : goal.invariant-loop-index
 invariant-loop-index l = record {
   first : l.index * 256 ≤ l.at;

@@ -1,12 +1,12 @@
 use Rattle.std.proofs.Common.{◌≡◌, ℕ, ◌+◌, ◌-◌, ◌<◌, length, All, refl, sym, subst, ◌∙◌, arith}
-use Rattle.stable_tree.specs.Places.{walk, end}
+use Rattle.stable_tree.specs.Slots.{walk, end}
 use Rattle.stable_tree.proofs.Walks.{end-none, end-step, within-first, within-step}
 use Rattle.stable_tree.proofs.store.last_of.Goals as goal
 
 pub loop-passed-init : goal.loop-passed-init
 loop-passed-init c =
     let e : c.args.groups - 1 + 1 ≡ c.args.groups = omega arith in
-    (refl, subst (λ (n : ℕ). All (λ place. place < length c.args.nexts.now) (walk n c.args.nexts.now c.args.at)) (sym e) c.requires.within)
+    (refl, subst (λ (n : ℕ). All (λ slot. slot < length c.args.nexts.now) (walk n c.args.nexts.now c.args.at)) (sym e) c.requires.within)
 
 pub bounds-nexts-last : goal.bounds-nexts-last
 bounds-nexts-last c = within-first (c.args.groups - c.loop-passed._passed) (length c.args.nexts.now) c.args.nexts.now c.loop-passed.last c.loop-passed.invariant.1

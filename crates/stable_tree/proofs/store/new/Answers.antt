@@ -1,7 +1,7 @@
 use Rattle.std.proofs.Common.{◌≤◌, slice_index_or, refl, arith}
 use Rattle.std.proofs.lemmas.List.Elements.{All-nil}
 use Rattle.tree_shape.specs.Shape.{in_order, Holds, IsEven}
-use Rattle.stable_tree.specs.Places.{tree_within}
+use Rattle.stable_tree.specs.Slots.{tree_within}
 use Rattle.stable_tree.proofs.store.new.Goals as goal
 
 pub returns-clause-whole : goal.returns-clause-whole

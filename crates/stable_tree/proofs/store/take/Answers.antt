@@ -1,6 +1,6 @@
 use Rattle.std.proofs.Common.{◌+◌, ◌*◌, ◌≤◌, length, arith}
 use Rattle.stable_tree.specs.Digits.{digits}
-use Rattle.stable_tree.specs.Places.{tree_in, chains_in}
+use Rattle.stable_tree.specs.Slots.{tree_in, chains_in}
 use Rattle.stable_tree.proofs.Contents.{whole-few}
 use Rattle.stable_tree.proofs.Entering.{renoded_store, whole-taking}
 use Rattle.stable_tree.proofs.Taking.{take-stays, out-nowhere, out-stays, out-tree_without}
@@ -11,8 +11,8 @@ use Rattle.stable_tree.proofs.store.take.Goals.{After-take_out}
 few : (c : After-take_out) → c.take_out.new.arena.steps ≤ c.args.arena.now.steps + 2 * digits (length (chains_in c.args.store.now))
 few c =
     let few = whole-few c.args.store.now c.args.store.now.free.items c.requires.whole in
-    let told = rw c.deref_mut.ensures.value at c.take_out.ensures.few in
-    omega (arith, few, told)
+    let answered = rw c.deref_mut.ensures.value at c.take_out.ensures.few in
+    omega (arith, few, answered)
 
 pub take_out-requires-clause-tree : goal.take_out-requires-clause-tree
 take_out-requires-clause-tree c =

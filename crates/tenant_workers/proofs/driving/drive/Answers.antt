@@ -36,8 +36,8 @@ returns-in-Ended-clause-few g c =
     let (makes, few) = c.in-Ended.ensures.follows s under_way.stands in
     rw c.steps.ensures few
 
-pub meet-requires : goal.meet-requires
-meet-requires g c =
+pub fulfil-requires : goal.fulfil-requires
+fulfil-requires g c =
     let (idle, same, gone, driven) = c.loop-ret.invariant in
     let (s, under_way) = is_under_way c.args.program.now c.args.run.now (own_part c.args.seat.now) c.loop-ret.run (own_part c.loop-ret.seat) driven in
     let follows = c.next.ensures.follows s under_way.stands in
@@ -50,11 +50,11 @@ pub loop-ret-smaller : goal.loop-ret-smaller
 loop-ret-smaller g c =
     let (idle, same, gone, driven) = c.loop-ret.invariant in
     let below = drives_below c.args.program.now c.args.run.now (own_part c.args.seat.now) c.loop-ret.run (own_part c.loop-ret.seat) driven in
-    omega (arith, below, c.next.ensures.steps, c.meet.ensures.steps)
+    omega (arith, below, c.next.ensures.steps, c.fulfil.ensures.steps)
 
 pub loop-ret-preserved : goal.loop-ret-preserved
 loop-ret-preserved g c =
     let (idle, same, gone, driven) = c.loop-ret.invariant in
-    let driven_on = drives_on c.args.program.now c.args.run.now (own_part c.args.seat.now) c.loop-ret.run c.next.new.self c.meet.new.run c.next.result (own_part c.loop-ret.seat) (own_part c.meet.new.seat) driven
-    c.in_default.not-Private c.in_default.not-Ended c.next.ensures.follows c.next.ensures.steps c.meet.ensures.steps c.meet.ensures.goes_on in
-    (c.meet.ensures.idle, same_on c.args.seat.now c.loop-ret.seat c.meet.new.seat same c.meet.ensures.same, gone_further c.args.seat.now c.loop-ret.seat c.meet.new.seat gone c.meet.ensures.turns, driven_on)
+    let driven_on = drives_on c.args.program.now c.args.run.now (own_part c.args.seat.now) c.loop-ret.run c.next.new.self c.fulfil.new.run c.next.result (own_part c.loop-ret.seat) (own_part c.fulfil.new.seat) driven
+    c.in_default.not-Private c.in_default.not-Ended c.next.ensures.follows c.next.ensures.steps c.fulfil.ensures.steps c.fulfil.ensures.goes_on in
+    (c.fulfil.ensures.idle, same_on c.args.seat.now c.loop-ret.seat c.fulfil.new.seat same c.fulfil.ensures.same, gone_further c.args.seat.now c.loop-ret.seat c.fulfil.new.seat gone c.fulfil.ensures.turns, driven_on)

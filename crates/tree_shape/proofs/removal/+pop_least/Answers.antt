@@ -16,11 +16,11 @@ pop_least-popped-requires t c =
     let less = falls true c.args.nodes.now c.args.link (fork c.args.link c.requires.0 c.requires.1.0) (node-some c.args.nodes.now c.args.link c.requires.0 c.requires.1.0 c.requires.1.1.sound.holds) c.requires.1.1.sound.holds in
     (omega (arith, less, c.decreases), (o.a, (o.b, popped-inner c.args.nodes.now c.args.link o)))
 
-pub settle-root-requires : goal.settle-root-requires
-settle-root-requires t c =
+pub rebalance-root-requires : goal.rebalance-root-requires
+rebalance-root-requires t c =
     let o = popper c.args.nodes.now c.args.link c.requires.0 c.requires.1.0 c.if-node.false c.requires.1.1 in
     popped-ready c.args.nodes.now c.args.link c.pop_least-popped.new.nodes c.pop_least-popped.result c.pop_least-popped.ensures o
 
 pub returns : goal.returns
 returns t c =
-    popped-all c.args.nodes.now c.args.link c.pop_least-popped.new.nodes c.pop_least-popped.result c.pop_least-popped.ensures c.if-node.false c.settle-root.new.nodes c.settle-root.result c.settle-root.ensures
+    popped-all c.args.nodes.now c.args.link c.pop_least-popped.new.nodes c.pop_least-popped.result c.pop_least-popped.ensures c.if-node.false c.rebalance-root.new.nodes c.rebalance-root.result c.rebalance-root.ensures

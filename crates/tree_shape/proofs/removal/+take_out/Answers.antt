@@ -39,13 +39,13 @@ take_out-requires-in-Greater t c =
     let less = falls true c.args.nodes.now c.args.link c.requires.tree.0 c.if-link-eq-NONE.false c.requires.tree.1.shrinks.sound.holds in
     (omega (arith, less, c.decreases), ((o.l, rw c.order_at.ensures.pages (taking-side true c.args.nodes.now c.args.frames.now c.args.arena.now.pages c.args.link o.l o.r o.is)), (rw c.order_at.ensures.pages c.requires.frame, c.requires.sized)))
 
-pub settle-requires : goal.settle-requires
-settle-requires t c =
+pub rebalance-requires : goal.rebalance-requires
+rebalance-requires t c =
     let o = taker c.args.nodes.now c.args.frames.now c.args.arena.now.pages c.args.link c.if-link-eq-NONE.false c.requires.tree.0 c.requires.tree.1 in
     side-ready c.args.nodes.now c.args.frames.now c.args.arena.now.pages c.args.link (order_to c.args.arena.now.pages c.args.frames.now c.args.frame) (is_alone c.args.frames.now c.args.sizes.now c.args.frame) c.if-link-eq-NONE.false false c.take_out.new.nodes o.r o.l o.is c.in-Out.taken (rw c.order_at.ensures.pages at c.in-Out.ensures.out)
 
-pub settle-requires-in-Out-take_out : goal.settle-requires-in-Out-take_out
-settle-requires-in-Out-take_out t c =
+pub rebalance-requires-in-Out-take_out : goal.rebalance-requires-in-Out-take_out
+rebalance-requires-in-Out-take_out t c =
     let o = taker c.args.nodes.now c.args.frames.now c.args.arena.now.pages c.args.link c.if-link-eq-NONE.false c.requires.tree.0 c.requires.tree.1 in
     side-ready c.args.nodes.now c.args.frames.now c.args.arena.now.pages c.args.link (order_to c.args.arena.now.pages c.args.frames.now c.args.frame) (is_alone c.args.frames.now c.args.sizes.now c.args.frame) c.if-link-eq-NONE.false true c.take_out-in-Greater.new.nodes o.l o.r o.is c.in-Out-take_out.taken (rw c.order_at.ensures.pages at c.in-Out-take_out.ensures.out)
 
@@ -56,23 +56,23 @@ merge-requires t c =
 
 pub returns-in-Nowhere-clause-out : goal.returns-in-Nowhere-clause-out
 returns-in-Nowhere-clause-out t c =
-    side-none c.args.nodes.now c.args.frames.now c.args.arena.now.pages c.args.link (order_to c.args.arena.now.pages c.args.frames.now c.args.frame) (is_alone c.args.frames.now c.args.sizes.now c.args.frame) c.if-link-eq-NONE.false false c.take_out.new.nodes (sym c.in-Less.ensures.told) (rw c.order_at.ensures.pages at c.in-Nowhere.ensures.out)
+    side-none c.args.nodes.now c.args.frames.now c.args.arena.now.pages c.args.link (order_to c.args.arena.now.pages c.args.frames.now c.args.frame) (is_alone c.args.frames.now c.args.sizes.now c.args.frame) c.if-link-eq-NONE.false false c.take_out.new.nodes (sym c.in-Less.ensures.answered) (rw c.order_at.ensures.pages at c.in-Nowhere.ensures.out)
 
 pub returns-in-Nowhere-take_out-clause-out : goal.returns-in-Nowhere-take_out-clause-out
 returns-in-Nowhere-take_out-clause-out t c =
-    side-none c.args.nodes.now c.args.frames.now c.args.arena.now.pages c.args.link (order_to c.args.arena.now.pages c.args.frames.now c.args.frame) (is_alone c.args.frames.now c.args.sizes.now c.args.frame) c.if-link-eq-NONE.false true c.take_out-in-Greater.new.nodes (sym c.in-Greater.ensures.told) (rw c.order_at.ensures.pages at c.in-Nowhere-take_out.ensures.out)
+    side-none c.args.nodes.now c.args.frames.now c.args.arena.now.pages c.args.link (order_to c.args.arena.now.pages c.args.frames.now c.args.frame) (is_alone c.args.frames.now c.args.sizes.now c.args.frame) c.if-link-eq-NONE.false true c.take_out-in-Greater.new.nodes (sym c.in-Greater.ensures.answered) (rw c.order_at.ensures.pages at c.in-Nowhere-take_out.ensures.out)
 
 pub returns-in-Out-clause-out : goal.returns-in-Out-clause-out
 returns-in-Out-clause-out t c =
-    side-some c.args.nodes.now c.args.frames.now c.args.arena.now.pages c.args.link (order_to c.args.arena.now.pages c.args.frames.now c.args.frame) (is_alone c.args.frames.now c.args.sizes.now c.args.frame) c.if-link-eq-NONE.false false c.take_out.new.nodes (sym c.in-Less.ensures.told) c.settle.new.nodes c.in-Out.taken c.settle.result (rw c.order_at.ensures.pages at c.in-Out.ensures.out) (λ r l. c.settle.ensures l r)
+    side-some c.args.nodes.now c.args.frames.now c.args.arena.now.pages c.args.link (order_to c.args.arena.now.pages c.args.frames.now c.args.frame) (is_alone c.args.frames.now c.args.sizes.now c.args.frame) c.if-link-eq-NONE.false false c.take_out.new.nodes (sym c.in-Less.ensures.answered) c.rebalance.new.nodes c.in-Out.taken c.rebalance.result (rw c.order_at.ensures.pages at c.in-Out.ensures.out) (λ r l. c.rebalance.ensures l r)
 
 pub returns-in-Out-take_out-clause-out : goal.returns-in-Out-take_out-clause-out
 returns-in-Out-take_out-clause-out t c =
-    side-some c.args.nodes.now c.args.frames.now c.args.arena.now.pages c.args.link (order_to c.args.arena.now.pages c.args.frames.now c.args.frame) (is_alone c.args.frames.now c.args.sizes.now c.args.frame) c.if-link-eq-NONE.false true c.take_out-in-Greater.new.nodes (sym c.in-Greater.ensures.told) c.settle-in-Out-take_out.new.nodes c.in-Out-take_out.taken c.settle-in-Out-take_out.result (rw c.order_at.ensures.pages at c.in-Out-take_out.ensures.out) c.settle-in-Out-take_out.ensures
+    side-some c.args.nodes.now c.args.frames.now c.args.arena.now.pages c.args.link (order_to c.args.arena.now.pages c.args.frames.now c.args.frame) (is_alone c.args.frames.now c.args.sizes.now c.args.frame) c.if-link-eq-NONE.false true c.take_out-in-Greater.new.nodes (sym c.in-Greater.ensures.answered) c.rebalance-in-Out-take_out.new.nodes c.in-Out-take_out.taken c.rebalance-in-Out-take_out.result (rw c.order_at.ensures.pages at c.in-Out-take_out.ensures.out) c.rebalance-in-Out-take_out.ensures
 
 pub returns-else-not-is_alone-clause-out : goal.returns-else-not-is_alone-clause-out
 returns-else-not-is_alone-clause-out t c =
-    here-some c.args.nodes.now c.args.frames.now c.args.arena.now.pages c.args.link (order_to c.args.arena.now.pages c.args.frames.now c.args.frame) (is_alone c.args.frames.now c.args.sizes.now c.args.frame) c.if-link-eq-NONE.false (sym c.in-Equal.ensures.told) (sym c.is_alone.ensures ∙ c.if-not-is_alone.false) c.merge.new.nodes c.merge.result c.merge.ensures
+    here-some c.args.nodes.now c.args.frames.now c.args.arena.now.pages c.args.link (order_to c.args.arena.now.pages c.args.frames.now c.args.frame) (is_alone c.args.frames.now c.args.sizes.now c.args.frame) c.if-link-eq-NONE.false (sym c.in-Equal.ensures.answered) (sym c.is_alone.ensures ∙ c.if-not-is_alone.false) c.merge.new.nodes c.merge.result c.merge.ensures
 
 pub returns-in-Nowhere-clause-few : goal.returns-in-Nowhere-clause-few
 returns-in-Nowhere-clause-few t c =
@@ -101,15 +101,15 @@ returns-in-Out-take_out-clause-few t c =
 
 pub returns-in-Stays-clause-out : goal.returns-in-Stays-clause-out
 returns-in-Stays-clause-out t c =
-    side-stays c.args.nodes.now c.args.frames.now c.args.arena.now.pages c.args.link (order_to c.args.arena.now.pages c.args.frames.now c.args.frame) (is_alone c.args.frames.now c.args.sizes.now c.args.frame) c.if-link-eq-NONE.false false c.take_out.new.nodes (sym c.in-Less.ensures.told) c.in-Stays.at (rw c.order_at.ensures.pages at c.in-Stays.ensures.out)
+    side-stays c.args.nodes.now c.args.frames.now c.args.arena.now.pages c.args.link (order_to c.args.arena.now.pages c.args.frames.now c.args.frame) (is_alone c.args.frames.now c.args.sizes.now c.args.frame) c.if-link-eq-NONE.false false c.take_out.new.nodes (sym c.in-Less.ensures.answered) c.in-Stays.at (rw c.order_at.ensures.pages at c.in-Stays.ensures.out)
 
 pub returns-in-Stays-take_out-clause-out : goal.returns-in-Stays-take_out-clause-out
 returns-in-Stays-take_out-clause-out t c =
-    side-stays c.args.nodes.now c.args.frames.now c.args.arena.now.pages c.args.link (order_to c.args.arena.now.pages c.args.frames.now c.args.frame) (is_alone c.args.frames.now c.args.sizes.now c.args.frame) c.if-link-eq-NONE.false true c.take_out-in-Greater.new.nodes (sym c.in-Greater.ensures.told) c.in-Stays-take_out.at (rw c.order_at.ensures.pages at c.in-Stays-take_out.ensures.out)
+    side-stays c.args.nodes.now c.args.frames.now c.args.arena.now.pages c.args.link (order_to c.args.arena.now.pages c.args.frames.now c.args.frame) (is_alone c.args.frames.now c.args.sizes.now c.args.frame) c.if-link-eq-NONE.false true c.take_out-in-Greater.new.nodes (sym c.in-Greater.ensures.answered) c.in-Stays-take_out.at (rw c.order_at.ensures.pages at c.in-Stays-take_out.ensures.out)
 
 pub returns-then-not-is_alone-clause-out : goal.returns-then-not-is_alone-clause-out
 returns-then-not-is_alone-clause-out t c =
-    here-stays c.args.nodes.now c.args.frames.now c.args.arena.now.pages c.args.link (order_to c.args.arena.now.pages c.args.frames.now c.args.frame) (is_alone c.args.frames.now c.args.sizes.now c.args.frame) c.if-link-eq-NONE.false (sym c.in-Equal.ensures.told) (sym c.is_alone.ensures ∙ c.if-not-is_alone.true)
+    here-stays c.args.nodes.now c.args.frames.now c.args.arena.now.pages c.args.link (order_to c.args.arena.now.pages c.args.frames.now c.args.frame) (is_alone c.args.frames.now c.args.sizes.now c.args.frame) c.if-link-eq-NONE.false (sym c.in-Equal.ensures.answered) (sym c.is_alone.ensures ∙ c.if-not-is_alone.true)
 
 pub is_alone-requires-clause-inside : goal.is_alone-requires-clause-inside
 is_alone-requires-clause-inside t c =

@@ -9,11 +9,11 @@ pop_least-popped-requires c =
     let o = merger c.args.nodes.now c.args.left c.args.right c.requires.0 c.requires.1.0 c.if-right-eq-NONE.false c.requires.1.1 in
     (o.a, (o.b, o.are.rights))
 
-pub settle-requires : goal.settle-requires
-settle-requires c =
+pub rebalance-requires : goal.rebalance-requires
+rebalance-requires c =
     let o = merger c.args.nodes.now c.args.left c.args.right c.requires.0 c.requires.1.0 c.if-right-eq-NONE.false c.requires.1.1 in
     merge-ready c.args.nodes.now c.pop_least-popped.new.nodes c.args.left c.args.right c.pop_least-popped.result c.pop_least-popped.ensures o
 
 pub returns : goal.returns
 returns c =
-    merge-all c.args.nodes.now c.pop_least-popped.new.nodes c.args.left c.args.right c.pop_least-popped.result c.pop_least-popped.ensures c.if-right-eq-NONE.false c.settle.new.nodes c.settle.result c.settle.ensures
+    merge-all c.args.nodes.now c.pop_least-popped.new.nodes c.args.left c.args.right c.pop_least-popped.result c.pop_least-popped.ensures c.if-right-eq-NONE.false c.rebalance.new.nodes c.rebalance.result c.rebalance.ensures

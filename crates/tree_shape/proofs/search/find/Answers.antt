@@ -26,19 +26,19 @@ loop-at-smaller c = falls true c.args.nodes.now c.loop-at.at c.loop-at.invariant
 
 pub loop-at-preserved-in-Less : goal.loop-at-preserved-in-Less
 loop-at-preserved-in-Less c =
-    let on = find-on c.args.nodes.now c.args.frames.now c.args.arena.now.pages c.loop-at.at (order_to c.args.arena.now.pages c.args.frames.now c.args.frame) false c.loop-at-test.true (rw c.loop-at.invariant.2 at (sym c.in-Less.ensures.told)) c.loop-at.invariant.0.0 c.loop-at.invariant.0.1 in
+    let on = find-on c.args.nodes.now c.args.frames.now c.args.arena.now.pages c.loop-at.at (order_to c.args.arena.now.pages c.args.frames.now c.args.frame) false c.loop-at-test.true (rw c.loop-at.invariant.2 at (sym c.in-Less.ensures.answered)) c.loop-at.invariant.0.0 c.loop-at.invariant.0.1 in
     let few = c.loop-at.invariant.3 in
     ((on.side, on.is), λ result inner. c.loop-at.invariant.1 result (on.finds result inner), c.order_at.ensures.pages ∙ c.loop-at.invariant.2, omega (arith, few, on.lower, c.order_at.ensures.steps))
 
 pub loop-at-preserved : goal.loop-at-preserved
 loop-at-preserved c =
-    let on = find-on c.args.nodes.now c.args.frames.now c.args.arena.now.pages c.loop-at.at (order_to c.args.arena.now.pages c.args.frames.now c.args.frame) true c.loop-at-test.true (rw c.loop-at.invariant.2 at (sym c.in-Greater.ensures.told)) c.loop-at.invariant.0.0 c.loop-at.invariant.0.1 in
+    let on = find-on c.args.nodes.now c.args.frames.now c.args.arena.now.pages c.loop-at.at (order_to c.args.arena.now.pages c.args.frames.now c.args.frame) true c.loop-at-test.true (rw c.loop-at.invariant.2 at (sym c.in-Greater.ensures.answered)) c.loop-at.invariant.0.0 c.loop-at.invariant.0.1 in
     let few = c.loop-at.invariant.3 in
     ((on.side, on.is), λ result inner. c.loop-at.invariant.1 result (on.finds result inner), c.order_at.ensures.pages ∙ c.loop-at.invariant.2, omega (arith, few, on.lower, c.order_at.ensures.steps))
 
-pub returns-in-Equal-clause-place : goal.returns-in-Equal-clause-place
-returns-in-Equal-clause-place c =
-    c.loop-at.invariant.1 (Some c.loop-at.at) (find-here c.args.nodes.now c.args.frames.now c.args.arena.now.pages c.loop-at.at (order_to c.args.arena.now.pages c.args.frames.now c.args.frame) c.loop-at-test.true (rw c.loop-at.invariant.2 at (sym c.in-Equal.ensures.told)))
+pub returns-in-Equal-clause-slot : goal.returns-in-Equal-clause-slot
+returns-in-Equal-clause-slot c =
+    c.loop-at.invariant.1 (Some c.loop-at.at) (find-here c.args.nodes.now c.args.frames.now c.args.arena.now.pages c.loop-at.at (order_to c.args.arena.now.pages c.args.frames.now c.args.frame) c.loop-at-test.true (rw c.loop-at.invariant.2 at (sym c.in-Equal.ensures.answered)))
 
 pub returns-in-Equal-clause-few : goal.returns-in-Equal-clause-few
 returns-in-Equal-clause-few c =
@@ -46,5 +46,5 @@ returns-in-Equal-clause-few c =
     let few = c.loop-at.invariant.3 in
     omega (arith, less, few, c.order_at.ensures.steps)
 
-pub returns-clause-place : goal.returns-clause-place
-returns-clause-place c = c.loop-at.invariant.1 None (find-none c.args.nodes.now c.args.frames.now c.args.arena.now.pages c.loop-at.at (order_to c.args.arena.now.pages c.args.frames.now c.args.frame) c.loop-at-test.false)
+pub returns-clause-slot : goal.returns-clause-slot
+returns-clause-slot c = c.loop-at.invariant.1 None (find-none c.args.nodes.now c.args.frames.now c.args.arena.now.pages c.loop-at.at (order_to c.args.arena.now.pages c.args.frames.now c.args.frame) c.loop-at-test.false)

@@ -17,7 +17,7 @@ equal Greater e = absurd (cc)
 itself : (page : List ℕ) → Equal ≡ slice_cmp nat_cmp page page
 itself page = equal (slice_cmp nat_cmp page page) (is_eq-slice_cmp page page ∙ (bytes_eq-Decides page page).1 refl)
 
-pub returns-then-other-frame-clause-told : goal.returns-then-other-frame-clause-told
-returns-then-other-frame-clause-told c =
+pub returns-then-other-frame-clause-answered : goal.returns-then-other-frame-clause-answered
+returns-then-other-frame-clause-answered c =
     itself (page_at c.args.arena.now.pages c.args.frame)
     ∙ ap (λ (n : ℕ). slice_cmp nat_cmp (page_at c.args.arena.now.pages n) (page_at c.args.arena.now.pages c.args.frame)) (sym c.if-other-frame.true)

@@ -1,6 +1,6 @@
 use Rattle.std.proofs.Common.{◌≡◌, ◌∙◌, take, length, ap}
 use Rattle.host_types.specs.Bytes.{bytes_of}
-use Rattle.host_types.proofs.Bytes.{length-bytes_of}
+use Rattle.host_types.proofs.LittleEndian.{length-bytes_of}
 use Rattle.write_break.proofs.Numbers.{small_size, take-bytes_of}
 use Rattle.write_break.proofs.access.store.Goals as goal
 

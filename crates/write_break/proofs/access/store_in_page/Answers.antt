@@ -11,8 +11,8 @@ take_out_as-requires-clause-room c =
     let cost = cost-one c.args.memory.now.sharing c.args.tenant c.args.map c.args.at (length c.args.bytes.now) c.requires.some c.requires.in_page in
     rw (c.page_of-page.ensures) (omega (arith, c.requires.room, cost))
 
-place : (c : goal.After-put) → c.args.at / 4096 * 4096 + c.args.at % 4096 ≡ c.args.at
-place c = omega arith
+offset : (c : goal.After-put) → c.args.at / 4096 * 4096 + c.args.at % 4096 ≡ c.args.at
+offset c = omega arith
 
 pub returns : goal.returns
 returns c =
@@ -23,9 +23,9 @@ returns c =
     let have = have-kept c.take_out_as.new.self c.put.new.self c.put.ensures.sharing c.put.ensures.settings in
     let before = rw (c.page_of-page.ensures) at c.take_out_as.ensures.have in
     record {
-      written = (rw (c.page_of-page.ensures, place c, taken) at c.put.ensures.written)
+      written = (rw (c.page_of-page.ensures, offset c, taken) at c.put.ensures.written)
           ∙ ap (λ (pins : List Bool). with_pins pins (part_written (part c.args.memory.now c.args.tenant) c.args.map c.args.at c.args.bytes.now)) pins;
-      bytes = rw (c.page_of-page.ensures, place c, taken) at c.put.ensures.bytes;
+      bytes = rw (c.page_of-page.ensures, offset c, taken) at c.put.ensures.bytes;
       sized = rw (c.page_of-page.ensures, taken) at c.put.ensures.length;
       other_maps = rw (c.page_of-page.ensures, taken) at c.put.ensures.other_maps;
       others = λ t ne. (rw (c.page_of-page.ensures) at c.put.ensures.others) t ne ∙ (rw (c.page_of-page.ensures) at c.take_out_as.ensures.others) t ne;

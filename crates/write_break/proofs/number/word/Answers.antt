@@ -1,5 +1,5 @@
 use Rattle.std.proofs.Common.{◌∙◌}
-use Rattle.host_types.proofs.Bytes.{bytes_low_first-bytes_of}
+use Rattle.host_types.proofs.LittleEndian.{bytes_low_first-bytes_of}
 use Rattle.write_break.proofs.number.word.Goals as goal
 
 pub returns : goal.returns

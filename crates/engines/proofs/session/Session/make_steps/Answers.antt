@@ -9,5 +9,5 @@ returns-in_default-clause-performs g c =
 pub returns-clause-performs : goal.returns-clause-performs
 returns-clause-performs g c =
     let was = g.W.Write.contents c.args.writer.now in
-    let is = g.W.Write.contents c.tell.new.writer in
-    performs-steps c.make_steps.new.self c.args.tenant c.args.limit c.in-Some.reply c.args.self.now c.tell.new.self was is c.in-Some.ensures.steps c.in_ok-tell.ensures.told
+    let is = g.W.Write.contents c.print.new.writer in
+    performs-steps c.make_steps.new.self c.args.tenant c.args.limit c.in-Some.reply c.args.self.now c.print.new.self was is c.in-Some.ensures.steps c.in_ok-print.ensures.printed

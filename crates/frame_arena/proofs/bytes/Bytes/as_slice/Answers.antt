@@ -1,5 +1,5 @@
 use Rattle.std.proofs.Common.{sym, ◌∙◌}
-use Rattle.frame_arena.specs.Places.{somes}
+use Rattle.frame_arena.specs.Offsets.{somes}
 use Rattle.frame_arena.proofs.Filling.{same-values, whole-run}
 use Rattle.frame_arena.proofs.bytes.Bytes.as_slice.Goals as goal
 

@@ -1,6 +1,6 @@
 use Rattle.std.proofs.Common.{◌≡◌, ◌∙◌, sym, ap, length, replicate, slice_set, arith, map, Some}
 use Rattle.std.proofs.lemmas.List.{length-map, length-replicate}
-use Rattle.frame_arena.specs.Places.{somes}
+use Rattle.frame_arena.specs.Offsets.{somes}
 use Rattle.frame_arena.proofs.Filling.{begun, next-filled, all-filled, somes-map}
 use Rattle.frame_arena.proofs.bytes.Bytes.zeros.Goals as goal
 

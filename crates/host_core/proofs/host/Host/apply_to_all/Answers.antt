@@ -1,6 +1,6 @@
 use Rattle.std.proofs.Common.{sym, subst}
-use Rattle.host_core.specs.declared.event.Event.TheVariants.{Visit}
-use Rattle.host_core.specs.declared.event.Reply.TheVariants.{Visited as WasVisited}
+use Rattle.host_types.specs.declared.event.Event.TheVariants.{Visit}
+use Rattle.host_core.specs.declared.reply.Reply.TheVariants.{Visited as WasVisited}
 use Rattle.host_core.specs.HostView.{HostView}
 use Rattle.host_core.proofs.Hosting.{Hosts, hosts-visit, hosts-unmerge}
 use Rattle.host_core.proofs.host.Host.apply_to_all.Goals as goal
@@ -19,4 +19,4 @@ returns-in-Visit c =
     (subst (λ old. Hosts old Visit (WasVisited c.visit.result) new) c.self.view_is (visits c))
 
 pub returns-in-Unmerge : goal.returns-in-Unmerge
-returns-in-Unmerge c = hosts-unmerge c.args.self.now c.unmerge.new.self c.args.event.now c.told-in-Unmerge.result c.unmerge.result c.in-Unmerge.is c.told-in-Unmerge.ensures c.unmerge.ensures
+returns-in-Unmerge c = hosts-unmerge c.args.self.now c.unmerge.new.self c.args.event.now c.into_reply-in-Unmerge.result c.unmerge.result c.in-Unmerge.is c.into_reply-in-Unmerge.ensures c.unmerge.ensures

@@ -1,13 +1,13 @@
 use Rattle.std.proofs.Common.{◌≤◌, length, set, refl, subst, arith, Some}
 use Rattle.std.proofs.lemmas.Option.{slice_get_past}
 use Rattle.host_types.specs.declared.fault.Fault.TheVariants.{BadTenant}
-use Rattle.host_core.specs.declared.event.Reply.TheVariants.{Refused}
+use Rattle.host_core.specs.declared.reply.Reply.TheVariants.{Refused}
 use Rattle.host_core.specs.HostView.{HostView}
 use Rattle.host_core.proofs.Hosting.{HostMakesSteps, host-made, host-no_tenant, tenant_there, kept_in}
 use Rattle.host_core.proofs.host.Host.make_steps.Goals as goal
 
-pub returns-then-place-len : goal.returns-then-place-len
-returns-then-place-len c =
+pub returns-then-entry_index-len : goal.returns-then-entry_index-len
+returns-then-entry_index-len c =
     let past : length c.self.inside.tenants.items ≤ c.args.tenant = omega (arith, c.self.inside.tenants.ok.0) in
     record {
       steps = subst (λ view. HostMakesSteps view c.args.tenant c.args.limit (Some (Refused BadTenant)) view) c.self.view_is

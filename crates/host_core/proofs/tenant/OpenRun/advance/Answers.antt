@@ -7,9 +7,9 @@ use Rattle.interp.specs.declared.need.Need.{Need}
 use Rattle.interp.specs.declared.need.Need.TheVariants.{Private, Ended}
 use Rattle.interp.specs.Machine.{MachineState}
 use Rattle.interp.specs.OnMaps.{FollowsOn}
-use Rattle.page_table.specs.Changes.{IsKeptBut}
+use Rattle.page_table.specs.Changes.{OtherTenantsUnchanged}
 use Rattle.page_table.specs.State.{MemoryState, part}
-use Rattle.tenant_runs.specs.Meeting.{KeepsSizes}
+use Rattle.tenant_runs.specs.Fulfilment.{KeepsSizes}
 use Rattle.tenant_runs.specs.Storing.{maps_of_part, HasStoreFrames, HasStored}
 use Rattle.tenant_runs.proofs.OnMaps.{Keeps}
 use Rattle.tenant_runs.proofs.Rooms.{record_keeps, ended_keeps, keeps_twice}
@@ -45,7 +45,7 @@ module _ (c : After-advance_on) where
       let (n, follows, made) = followed v s under c.advance_on.result refl in
       kept_on c.in-Some.program c.args.number s n c.advance_on.result c.advance_on.new.self c.args.memory.now c.record.new.self c.advance_on.new.memory (start v s under) follows
 
-  others_kept : IsKeptBut c.args.number c.args.memory.now c.advance_on.new.memory
+  others_kept : OtherTenantsUnchanged c.args.number c.args.memory.now c.advance_on.new.memory
   others_kept t other = kept.0.others t other ∙ c.record.ensures.others t other
 
   sizes_kept : KeepsSizes c.args.memory.now c.advance_on.new.memory

@@ -1,7 +1,7 @@
 use Rattle.std.proofs.Common.{◌≡◌, option_copied, None, Some, is_some, true, false, ◌∙◌, sym, ap, subst}
 use Rattle.host_types.specs.declared.fault.Fault.TheVariants.{NoProgram}
-use Rattle.host_core.specs.declared.event.Event.TheVariants.{Begin}
-use Rattle.host_core.specs.declared.event.Reply.TheVariants.{Begun, Refused}
+use Rattle.host_types.specs.declared.event.Event.TheVariants.{Begin}
+use Rattle.host_core.specs.declared.reply.Reply.TheVariants.{Begun, Refused}
 use Rattle.host_core.specs.HostView.{TenantView, IsServed}
 use Rattle.host_core.proofs.Serving.{run_is, passed_on, kept-there}
 use Rattle.host_core.proofs.Opening.{accepted_at, lent-at, begin-busy, begin-no_program, begin-not_opened, begin-begun, kept-idle, kept-resting}

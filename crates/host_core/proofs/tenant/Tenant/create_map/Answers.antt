@@ -1,5 +1,5 @@
 use Rattle.std.proofs.Common.{true, false}
-use Rattle.host_core.specs.declared.event.Event.TheVariants.{CreateMap}
+use Rattle.host_types.specs.declared.event.Event.TheVariants.{CreateMap}
 use Rattle.host_core.proofs.Serving.{run_is, passed_on, has_kept, create-busy, create-refused, create-made}
 use Rattle.host_core.proofs.tenant.Tenant.create_map.Goals as goal
 

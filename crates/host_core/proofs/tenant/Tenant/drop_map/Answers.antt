@@ -3,8 +3,8 @@ use Rattle.std.specs.List.{list_any}
 use Rattle.host_types.specs.declared.fault.Fault.TheVariants.{InUse}
 use Rattle.host_types.specs.Memory.{map_at}
 use Rattle.page_table.specs.State.{part}
-use Rattle.host_core.specs.declared.event.Event.TheVariants.{DropMap}
-use Rattle.host_core.specs.declared.event.Reply.TheVariants.{Done, Refused}
+use Rattle.host_types.specs.declared.event.Event.TheVariants.{DropMap}
+use Rattle.host_core.specs.declared.reply.Reply.TheVariants.{Done, Refused}
 use Rattle.host_core.specs.HostView.{TenantView, IsServed, names_in}
 use Rattle.host_core.proofs.Serving.{run_is, passed_on, has_kept}
 use Rattle.host_core.proofs.Leaving.{drop-busy, drop-missing, drop-in_use, drop-not_there, drop-done, kept-inside, shape-found, lent-used}

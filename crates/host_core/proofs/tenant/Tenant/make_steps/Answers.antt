@@ -12,27 +12,27 @@ loop-left-init c = record {
 pub returns-then-is_some-clause-steps : goal.returns-then-is_some-clause-steps
 returns-then-is_some-clause-steps c =
     let (n, whole, made, counted) = c.loop-left.invariant.before in
-    let steps = c.stretch-stretch.result.steps in
-    let joined = made-join c.args.number n steps c.args.self.now c.loop-left.self c.stretch-stretch.new.self c.args.memory.now c.loop-left.memory c.stretch-stretch.new.memory c.stretch-stretch.result.last made c.stretch-stretch.ensures.made in
-    made-some c.args.number (n + steps) c.args.limit c.args.self.now c.stretch-stretch.new.self c.args.memory.now c.stretch-stretch.new.memory c.stretch-stretch.result.last
-    (omega (arith, whole, c.stretch-stretch.ensures.few)) (sym c.is_some.ensures ∙ c.if-is_some.true) joined
+    let steps = c.batch-batch.result.steps in
+    let joined = made-join c.args.number n steps c.args.self.now c.loop-left.self c.batch-batch.new.self c.args.memory.now c.loop-left.memory c.batch-batch.new.memory c.batch-batch.result.last made c.batch-batch.ensures.made in
+    made-some c.args.number (n + steps) c.args.limit c.args.self.now c.batch-batch.new.self c.args.memory.now c.batch-batch.new.memory c.batch-batch.result.last
+    (omega (arith, whole, c.batch-batch.ensures.few)) (sym c.is_some.ensures ∙ c.if-is_some.true) joined
 
 pub loop-left-smaller : goal.loop-left-smaller
-loop-left-smaller c = omega (arith, c.stretch-stretch.ensures.some, c.stretch-stretch.ensures.few, c.loop-left-test.true)
+loop-left-smaller c = omega (arith, c.batch-batch.ensures.some, c.batch-batch.ensures.few, c.loop-left-test.true)
 
 pub loop-left-preserved : goal.loop-left-preserved
 loop-left-preserved c =
     let (n, whole, made, counted) = c.loop-left.invariant.before in
-    let steps = c.stretch-stretch.result.steps in
-    let none : c.stretch-stretch.result.last ≡ None = is_none_there c.stretch-stretch.result.last (sym c.is_some.ensures ∙ c.if-is_some.false) in
-    let stretched = subst (λ last. HasMadeSteps c.args.number c.loop-left.self c.loop-left.memory steps last c.stretch-stretch.new.self c.stretch-stretch.new.memory) none c.stretch-stretch.ensures.made in
-    let counts = subst (λ last. HasCounted c.loop-left.self steps last c.stretch-stretch.new.self) none c.stretch-stretch.ensures.counted in
+    let steps = c.batch-batch.result.steps in
+    let none : c.batch-batch.result.last ≡ None = is_none_there c.batch-batch.result.last (sym c.is_some.ensures ∙ c.if-is_some.false) in
+    let stretched = subst (λ last. HasMadeSteps c.args.number c.loop-left.self c.loop-left.memory steps last c.batch-batch.new.self c.batch-batch.new.memory) none c.batch-batch.ensures.made in
+    let counts = subst (λ last. HasCounted c.loop-left.self steps last c.batch-batch.new.self) none c.batch-batch.ensures.counted in
     record {
-      kept = kept-made c.args.number steps c.loop-left.self c.stretch-stretch.new.self c.loop-left.memory c.stretch-stretch.new.memory None stretched c.loop-left.invariant.kept;
+      kept = kept-made c.args.number steps c.loop-left.self c.batch-batch.new.self c.loop-left.memory c.batch-batch.new.memory None stretched c.loop-left.invariant.kept;
       before = (
         n + steps,
-        omega (arith, whole, c.stretch-stretch.ensures.few),
-        made-join c.args.number n steps c.args.self.now c.loop-left.self c.stretch-stretch.new.self c.args.memory.now c.loop-left.memory c.stretch-stretch.new.memory None made stretched,
+        omega (arith, whole, c.batch-batch.ensures.few),
+        made-join c.args.number n steps c.args.self.now c.loop-left.self c.batch-batch.new.self c.args.memory.now c.loop-left.memory c.batch-batch.new.memory None made stretched,
         omega (arith, counted, counts),
       );
     }

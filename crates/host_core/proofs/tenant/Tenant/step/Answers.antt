@@ -1,7 +1,7 @@
 use Rattle.std.proofs.Common.{◌≡◌, ◌+◌, Some, None, sym, subst, arith}
 use Rattle.host_types.specs.declared.fault.Fault.TheVariants.{NoRun}
 use Rattle.page_table.specs.State.{part}
-use Rattle.host_core.specs.declared.event.Reply.TheVariants.{Ended, Refused}
+use Rattle.host_core.specs.declared.reply.Reply.TheVariants.{Ended, Refused}
 use Rattle.host_core.specs.HostView.{TenantView, HasMadeSteps, IsKept}
 use Rattle.host_core.specs.Stretches.{IsUnderWayAt}
 use Rattle.host_core.proofs.Making.{served-stepped, served-last}

@@ -1,7 +1,7 @@
 use Rattle.std.proofs.Common.{◌≡◌, option_copied, set, is_some, true, false, None, ◌∙◌, sym, ap, subst}
 use Rattle.host_types.specs.declared.fault.Fault.TheVariants.{NoProgram}
-use Rattle.host_core.specs.declared.event.Event.TheVariants.{Unload}
-use Rattle.host_core.specs.declared.event.Reply.TheVariants.{Done, Refused}
+use Rattle.host_types.specs.declared.event.Event.TheVariants.{Unload}
+use Rattle.host_core.specs.declared.reply.Reply.TheVariants.{Done, Refused}
 use Rattle.host_core.specs.HostView.{TenantView, IsServed}
 use Rattle.host_core.proofs.Opening.{accepted_at, lent-at}
 use Rattle.host_core.proofs.Leaving.{unload-busy, unload-missing, unload-done}

@@ -1,5 +1,5 @@
 use Rattle.std.proofs.Common.{true, false}
-use Rattle.host_core.specs.declared.event.Event.TheVariants.{HostUpdate}
+use Rattle.host_types.specs.declared.event.Event.TheVariants.{HostUpdate}
 use Rattle.host_core.proofs.Serving.{run_is, passed_on, has_kept, update-busy, update-refused, update-done}
 use Rattle.host_core.proofs.tenant.Tenant.update.Goals as goal
 

@@ -5,11 +5,11 @@ use Rattle.page_table.proofs.memory.Memory.entry.Goals as goal
 
 pub entry-requires : goal.entry-requires
 entry-requires c =
-    grind (arith, sees c.self.inside.table c.self.inside.shapes.items c.self.inside.tenants.items c.self.inside.pass c.self.inside.reserved c.self.invariant.0 c.args.self.now c.self.view_is c.args.page c.place_of.result c.place_of.ensures, page_inside c.self.inside.table c.place_of.result)
+    grind (arith, sees c.self.inside.table c.self.inside.shapes.items c.self.inside.tenants.items c.self.inside.pass c.self.inside.reserved c.self.invariant.0 c.args.self.now c.self.view_is c.args.page c.index_of_page.result c.index_of_page.ensures, page_inside c.self.inside.table c.index_of_page.result)
 
 pub unreachable-requires : goal.unreachable-requires
 unreachable-requires c =
-    grind (arith, sees c.self.inside.table c.self.inside.shapes.items c.self.inside.tenants.items c.self.inside.pass c.self.inside.reserved c.self.invariant.0 c.args.self.now c.self.view_is c.args.page c.place_of.result c.place_of.ensures, page_there c.self.inside.table c.place_of.result)
+    grind (arith, sees c.self.inside.table c.self.inside.shapes.items c.self.inside.tenants.items c.self.inside.pass c.self.inside.reserved c.self.invariant.0 c.args.self.now c.self.view_is c.args.page c.index_of_page.result c.index_of_page.ensures, page_there c.self.inside.table c.index_of_page.result)
 
 pub returns : goal.returns
 returns c =

@@ -9,4 +9,4 @@ is_pinned-requires c =
 
 pub returns : goal.returns
 unfolding view_of
-returns c = rw (← c.self.view_is) (c.is_pinned.ensures ∙ ap (is_pinned c.self.inside.pass.pins) c.place_of.ensures)
+returns c = rw (← c.self.view_is) (c.is_pinned.ensures ∙ ap (is_pinned c.self.inside.pass.pins) c.index_of_page.ensures)

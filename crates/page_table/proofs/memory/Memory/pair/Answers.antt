@@ -6,12 +6,12 @@ use Rattle.page_table.proofs.memory.Memory.pair.Goals as goal
 
 pub pair-requires : goal.pair-requires
 pair-requires c =
-    grind (arith, nat_tests, sees c.self.inside.table c.self.inside.shapes.items c.self.inside.tenants.items c.self.inside.pass c.self.inside.reserved c.self.invariant.0 c.args.self.now c.self.view_is c.args.first c.place_of-first.result c.place_of-first.ensures, sees c.self.inside.table c.self.inside.shapes.items c.self.inside.tenants.items c.self.inside.pass c.self.inside.reserved c.self.invariant.0 c.args.self.now c.self.view_is c.args.second c.place_of-second.result c.place_of-second.ensures, map_small, number_small)
+    grind (arith, nat_tests, sees c.self.inside.table c.self.inside.shapes.items c.self.inside.tenants.items c.self.inside.pass c.self.inside.reserved c.self.invariant.0 c.args.self.now c.self.view_is c.args.first c.index_of_page-first.result c.index_of_page-first.ensures, sees c.self.inside.table c.self.inside.shapes.items c.self.inside.tenants.items c.self.inside.pass c.self.inside.reserved c.self.invariant.0 c.args.self.now c.self.view_is c.args.second c.index_of_page-second.result c.index_of_page-second.ensures, map_small, number_small)
 
 pub invariant_of-self : goal.invariant_of-self
 unfolding paired
 invariant_of-self c =
-    grind (arith, sees c.self.inside.table c.self.inside.shapes.items c.self.inside.tenants.items c.self.inside.pass c.self.inside.reserved c.self.invariant.0 c.args.self.now c.self.view_is c.args.first c.place_of-first.result c.place_of-first.ensures, sees c.self.inside.table c.self.inside.shapes.items c.self.inside.tenants.items c.self.inside.pass c.self.inside.reserved c.self.invariant.0 c.args.self.now c.self.view_is c.args.second c.place_of-second.result c.place_of-second.ensures, pass-left-both c.self.inside.table c.pair.new.self c.self.inside.pass c.place_of-first.result c.place_of-second.result c.self.invariant.1, entries-long c.self.inside.table c.pair.new.self c.pair.ensures.contents, nat_tests, get_or-set_same, get_or-set_other, set_past, get_or_past)
+    grind (arith, sees c.self.inside.table c.self.inside.shapes.items c.self.inside.tenants.items c.self.inside.pass c.self.inside.reserved c.self.invariant.0 c.args.self.now c.self.view_is c.args.first c.index_of_page-first.result c.index_of_page-first.ensures, sees c.self.inside.table c.self.inside.shapes.items c.self.inside.tenants.items c.self.inside.pass c.self.inside.reserved c.self.invariant.0 c.args.self.now c.self.view_is c.args.second c.index_of_page-second.result c.index_of_page-second.ensures, pass-left-both c.self.inside.table c.pair.new.self c.self.inside.pass c.index_of_page-first.result c.index_of_page-second.result c.self.invariant.1, entries-long c.self.inside.table c.pair.new.self c.pair.ensures.contents, nat_tests, get_or-set_same, get_or-set_other, set_past, get_or_past)
 
 pub returns : goal.returns
 unfolding view_of

@@ -5,7 +5,7 @@ use Rattle.page_table.proofs.memory.Memory.put.Goals as goal
 
 pub put-requires : goal.put-requires
 put-requires c =
-    grind (arith, sees c.self.inside.table c.self.inside.shapes.items c.self.inside.tenants.items c.self.inside.pass c.self.inside.reserved c.self.invariant.0 c.args.self.now c.self.view_is c.args.page c.place_of.result c.place_of.ensures)
+    grind (arith, sees c.self.inside.table c.self.inside.shapes.items c.self.inside.tenants.items c.self.inside.pass c.self.inside.reserved c.self.invariant.0 c.args.self.now c.self.view_is c.args.page c.index_of_page.result c.index_of_page.ensures)
 
 pub invariant_of-self : goal.invariant_of-self
 invariant_of-self c =

@@ -2,7 +2,7 @@ use Rattle.page_table.proofs.Base.{◌≤◌, ◌+◌, length, arith, nat_tests,
 use Rattle.page_table.proofs.Merging.{moves}
 use Rattle.page_table.proofs.Unmerging.{need_reserved, need_fits, unmerged_is}
 use Rattle.page_table.proofs.Waiters.{pass-kept, entries-long}
-use Rattle.page_table.proofs.Partners.{ahead-told, stay-broken_from}
+use Rattle.page_table.proofs.Partners.{ahead-answer, stay-pages_broken}
 use Rattle.page_table.proofs.memory.Memory.unmerge.Goals as goal
 
 pub take_out_all-requires : goal.take_out_all-requires
@@ -15,7 +15,7 @@ room c =
 
 pub invariant_of-self : goal.invariant_of-self
 invariant_of-self c =
-    grind (arith, nat_tests, room c, pass-kept c.self.inside.table c.take_out_all.new.self c.self.inside.pass c.self.invariant.1 c.take_out_all.ensures.kept c.take_out_all.ensures.arena (entries-long c.self.inside.table c.take_out_all.new.self c.take_out_all.ensures.contents), entries-long c.self.inside.table c.take_out_all.new.self c.take_out_all.ensures.contents, ahead-told c.self.inside.table c.take_out_all.new.self c.self.inside.pass, stay-broken_from (sharing_of c.self.inside.table c.self.inside.pass) 0)
+    grind (arith, nat_tests, room c, pass-kept c.self.inside.table c.take_out_all.new.self c.self.inside.pass c.self.invariant.1 c.take_out_all.ensures.kept c.take_out_all.ensures.arena (entries-long c.self.inside.table c.take_out_all.new.self c.take_out_all.ensures.contents), entries-long c.self.inside.table c.take_out_all.new.self c.take_out_all.ensures.contents, ahead-answer c.self.inside.table c.take_out_all.new.self c.self.inside.pass, stay-pages_broken (sharing_of c.self.inside.table c.self.inside.pass) 0)
 
 pub returns : goal.returns
 unfolding view_of

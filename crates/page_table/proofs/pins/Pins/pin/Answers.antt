@@ -7,4 +7,4 @@ overflow_add-index_mut c = grind (arith, nat_tests, get_or_default, few-pinned, 
 
 pub invariant_of-self : goal.invariant_of-self
 invariant_of-self c =
-    grind (arith, get_or_default c.self.inside.numbers.items, pins-more-at c.self.inside.places.items c.self.inside.numbers.items c.self.invariant c.args.place c.index_mut-then-not-index.result.now)
+    grind (arith, get_or_default c.self.inside.numbers.items, pins-more-at c.self.inside.page_indices.items c.self.inside.numbers.items c.self.invariant c.args.page_index c.index_mut-then-not-index.result.now)

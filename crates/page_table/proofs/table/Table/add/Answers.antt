@@ -8,9 +8,9 @@ use Rattle.page_table.proofs.table.Table.add.Goals as goal
 pub invariant_of-self : goal.invariant_of-self
 invariant_of-self c =
     let unused = unused-frame _ c.self.inside.counts c.take-frame.result c.self.invariant.0 c.take-frame.ensures.unused in
-    grind (arith, nat_tests, sound-added _ c.args.place c.take-frame.result c.args.mergeable c.self.invariant.0.fits unused, no_entry_of_content, tree-set c.self.inside.arena c.self.inside.groups.listed c.self.inside.tree c.take-frame.result zero_page, length-set)
+    grind (arith, nat_tests, sound-added _ c.args.page_index c.take-frame.result c.args.mergeable c.self.invariant.0.fits unused, no_entry_of_content, tree-set c.self.inside.arena c.self.inside.groups.listed c.self.inside.tree c.take-frame.result zero_page, length-set)
 
 pub returns : goal.returns
 returns c =
     let unused = unused-frame _ c.self.inside.counts c.take-frame.result c.self.invariant.0 c.take-frame.ensures.unused in
-    grind (arith, nat_tests, common_steps, contents-filled _ c.args.place (added_entry c.take-frame.result c.args.mergeable) zero_page c.self.invariant.0.fits unused, no_entry_of_content, states-added _ c.args.place c.take-frame.result c.args.mergeable c.self.invariant.0.fits unused, groups-added _ c.args.place c.take-frame.result c.args.mergeable c.self.invariant.0.fits unused, used-added _ c.args.place c.take-frame.result c.args.mergeable c.self.invariant.0.fits unused, get_or-set_other)
+    grind (arith, nat_tests, common_steps, contents-filled _ c.args.page_index (added_entry c.take-frame.result c.args.mergeable) zero_page c.self.invariant.0.fits unused, no_entry_of_content, states-added _ c.args.page_index c.take-frame.result c.args.mergeable c.self.invariant.0.fits unused, groups-added _ c.args.page_index c.take-frame.result c.args.mergeable c.self.invariant.0.fits unused, used-added _ c.args.page_index c.take-frame.result c.args.mergeable c.self.invariant.0.fits unused, get_or-set_other)

@@ -3,4 +3,4 @@ use Rattle.page_table.proofs.Entries.{cost-counted}
 use Rattle.page_table.proofs.table.Table.break_cost.Goals as goal
 
 pub returns : goal.returns
-returns c = grind (arith, nat_tests, cost-counted _ c.self.inside.counts c.args.place c.page-entry.result c.self.invariant.0)
+returns c = grind (arith, nat_tests, cost-counted _ c.self.inside.counts c.args.page_index c.page-entry.result c.self.invariant.0)

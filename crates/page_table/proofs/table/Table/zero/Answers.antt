@@ -4,15 +4,15 @@ use Rattle.page_table.proofs.table.Table.zero.Goals as goal
 
 pub share-requires-clause-few : goal.share-requires-clause-few
 share-requires-clause-few c =
-    let move = move-zeroed _ c.args.self.now c.args.place c.page-entry.result c.merged.result c.self.view_is c.self.invariant.0.fits c.page-entry.ensures c.requires.own c.requires.zeros (grind arith) in
-    rw c.merged.ensures.frame at (few _ c.args.place c.page-entry.result c.merged.result move c.self.inside.counts c.self.invariant.0.counted)
+    let move = move-zeroed _ c.args.self.now c.args.page_index c.page-entry.result c.merged.result c.self.view_is c.self.invariant.0.fits c.page-entry.ensures c.requires.own c.requires.zeros (grind arith) in
+    rw c.merged.ensures.frame at (few _ c.args.page_index c.page-entry.result c.merged.result move c.self.inside.counts c.self.invariant.0.counted)
 
 pub invariant_of-self : goal.invariant_of-self
 invariant_of-self c =
-    let move = move-zeroed _ c.args.self.now c.args.place c.page-entry.result c.merged.result c.self.view_is c.self.invariant.0.fits c.page-entry.ensures c.requires.own c.requires.zeros (grind arith) in
-    grind (arith, sound-moved _ c.args.place c.page-entry.result c.merged.result move c.self.inside.counts c.share.new.self c.release.new.self)
+    let move = move-zeroed _ c.args.self.now c.args.page_index c.page-entry.result c.merged.result c.self.view_is c.self.invariant.0.fits c.page-entry.ensures c.requires.own c.requires.zeros (grind arith) in
+    grind (arith, sound-moved _ c.args.page_index c.page-entry.result c.merged.result move c.self.inside.counts c.share.new.self c.release.new.self)
 
 pub returns : goal.returns
 returns c =
-    let move = move-zeroed _ c.args.self.now c.args.place c.page-entry.result c.merged.result c.self.view_is c.self.invariant.0.fits c.page-entry.ensures c.requires.own c.requires.zeros (grind arith) in
-    grind (arith, contents-moved _ c.args.place c.page-entry.result c.merged.result move, sharing-zeroed _ c.args.place c.page-entry.result c.merged.result move, used-moved _ c.args.place c.page-entry.result c.merged.result move, get_or-set_other)
+    let move = move-zeroed _ c.args.self.now c.args.page_index c.page-entry.result c.merged.result c.self.view_is c.self.invariant.0.fits c.page-entry.ensures c.requires.own c.requires.zeros (grind arith) in
+    grind (arith, contents-moved _ c.args.page_index c.page-entry.result c.merged.result move, sharing-zeroed _ c.args.page_index c.page-entry.result c.merged.result move, used-moved _ c.args.page_index c.page-entry.result c.merged.result move, get_or-set_other)

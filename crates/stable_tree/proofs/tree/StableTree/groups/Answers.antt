@@ -1,6 +1,6 @@
 use Rattle.std.proofs.Common.{ap, arith, length}
 use Rattle.stable_tree.specs.Groups.{Groups, group_frames}
-use Rattle.stable_tree.specs.Places.{heads_in}
+use Rattle.stable_tree.specs.Slots.{heads_in}
 use Rattle.stable_tree.proofs.Hanging.{length-chains}
 use Rattle.stable_tree.proofs.tree.StableTree.groups.Goals as goal
 

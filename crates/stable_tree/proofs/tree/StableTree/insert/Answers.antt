@@ -1,6 +1,6 @@
 use Rattle.std.proofs.Common.{arith}
-use Rattle.stable_tree.proofs.Placing.{chains-low}
-use Rattle.stable_tree.proofs.Told.{put-inserted, put-sorted, put-kept, put-moved}
+use Rattle.stable_tree.proofs.Numbering.{chains-low}
+use Rattle.stable_tree.proofs.Order.{put-inserted, put-sorted, put-kept, put-moved}
 use Rattle.stable_tree.proofs.tree.StableTree.insert.Goals as goal
 
 pub moved-self-inside-requires-clause-chains : goal.moved-self-inside-requires-clause-chains
@@ -16,7 +16,7 @@ pub moved-self-inside-requires-clause-few_groups : goal.moved-self-inside-requir
 moved-self-inside-requires-clause-few_groups c = let low = chains-low c.put-before.ensures.whole in let fit = (put-moved c.self.invariant.1 c.put-before.ensures.put (omega (arith, c.if-before-gt0.true))).fit in omega (arith, fit, low)
 
 pub invariant_of-self : goal.invariant_of-self
-invariant_of-self c = (c.put-before.ensures.whole, rw c.moved-self-inside.ensures (put-moved c.self.invariant.1 c.put-before.ensures.put (omega (arith, c.if-before-gt0.true))).told)
+invariant_of-self c = (c.put-before.ensures.whole, rw c.moved-self-inside.ensures (put-moved c.self.invariant.1 c.put-before.ensures.put (omega (arith, c.if-before-gt0.true))).answered)
 
 pub invariant_of-self-else-before-gt0 : goal.invariant_of-self-else-before-gt0
 invariant_of-self-else-before-gt0 c = (c.put-before.ensures.whole, put-kept (rw (← c.self.view_is) at c.requires.sorted) c.self.invariant.1 c.put-before.ensures.put (omega (arith, c.if-before-gt0.false)))

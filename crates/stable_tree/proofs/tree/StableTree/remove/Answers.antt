@@ -1,5 +1,5 @@
 use Rattle.std.proofs.Common.{arith}
-use Rattle.stable_tree.proofs.Told.{take-removed, take-sorted, take-kept, take-moved}
+use Rattle.stable_tree.proofs.Order.{take-removed, take-sorted, take-kept, take-moved}
 use Rattle.stable_tree.proofs.tree.StableTree.remove.Goals as goal
 
 pub moved-self-inside-requires-clause-chains : goal.moved-self-inside-requires-clause-chains
@@ -9,7 +9,7 @@ pub moved-self-inside-requires-clause-groups : goal.moved-self-inside-requires-c
 moved-self-inside-requires-clause-groups c = (take-moved c.self.invariant.1 c.take-before.ensures.taken (omega (arith, c.if-before-gt1.true))).other
 
 pub invariant_of-self : goal.invariant_of-self
-invariant_of-self c = (c.take-before.ensures.whole, rw c.moved-self-inside.ensures (take-moved c.self.invariant.1 c.take-before.ensures.taken (omega (arith, c.if-before-gt1.true))).told)
+invariant_of-self c = (c.take-before.ensures.whole, rw c.moved-self-inside.ensures (take-moved c.self.invariant.1 c.take-before.ensures.taken (omega (arith, c.if-before-gt1.true))).answered)
 
 pub invariant_of-self-else-before-gt1 : goal.invariant_of-self-else-before-gt1
 invariant_of-self-else-before-gt1 c = (c.take-before.ensures.whole, take-kept c.self.invariant.1 c.take-before.ensures.taken (omega (arith, c.if-before-gt1.false)))

@@ -5,5 +5,5 @@ use Rattle.unstable_tree.proofs.tree.UnstableTree.forget_all.Goals as goal
 
 pub returns : goal.returns
 returns c =
-    let kept = filter_same _ (λ (w : Waiter). not (nat_le c.args.first w.place && nat_lt w.place c.args.end)) _ (λ x b f' k. search rules) _ _ c.retain.ensures.filtered in
+    let kept = filter_same _ (λ (w : Waiter). not (nat_le c.args.first w.page_index && nat_lt w.page_index c.args.end)) _ (λ x b f' k. search rules) _ _ c.retain.ensures.filtered in
     rw (← c.self.view_is, kept) refl

@@ -1,4 +1,4 @@
-use Rattle.verifier.proofs.Ways.{check_described, fork_described}
+use Rattle.verifier.proofs.Successors.{check_described, fork_described}
 use Rattle.verifier.proofs.candidate.Candidate.branches.Goals as goal
 
 pub returns-in-Numbers-clause-described : goal.returns-in-Numbers-clause-described

@@ -1,6 +1,6 @@
 use Rattle.std.proofs.Common.{arith}
 use Rattle.bpf_decode.specs.Text.{slots_of}
-use Rattle.bpf_decode.proofs.Placing.{instructions_fit}
+use Rattle.bpf_decode.proofs.Numbering.{instructions_fit}
 use Rattle.verifier.proofs.verified.Verified.instructions.Goals as goal
 
 pub overflow_cast-result : goal.overflow_cast-result

@@ -1,0 +1,62 @@
+//! Reads command lines from the standard input, whose words bars set apart, and prints what each asks for, or
+//! what is said of words that ask for nothing. Words after `explain` and `lower` are those programs', and others
+//! `bpf_host`'s. The file `stdout` of this crate says what is wanted.
+#![tactic(auto)]
+
+use command_line::{WrongWords, explained_of, lowered_of, request_of};
+use std::alloc::{AllocError, Global};
+use std::fmt::Debug;
+use std::io;
+use std::io::Input;
+
+/// The path of the program, which is longer than what is reported of a word.
+const PATH: &str = "/home/someone/projects/bpf_host/crates/bpf_host/out/bpf_host";
+
+/// The words of a line, after the program's path.
+fn words_of(alloc: Global, line: &str) -> Result<Vec<String>, AllocError> {
+    let mut words = Vec::new(alloc);
+    words.push(String::from_str(alloc, PATH)?)?;
+    for word in line.split('|').filter(|_| !line.is_empty()) {
+        words.push(String::from_str(alloc, word)?)?;
+    }
+    Ok(words)
+}
+
+/// Prints what a line asks for, or what is said of it.
+fn print_asked(rt: &(impl AllocGlobal + Print), line: &str) -> io::Result<()> {
+    println!(rt; "$ {}", line.escape_debug())?;
+    if let Some(words) = line.strip_prefix("explain") {
+        let words = words_of(rt.alloc(), words.trim_start())?;
+        return print_answer(rt, explained_of(rt.alloc(), words.as_slice()));
+    }
+    if let Some(words) = line.strip_prefix("lower") {
+        let words = words_of(rt.alloc(), words.trim_start())?;
+        return print_answer(rt, lowered_of(rt.alloc(), words.as_slice()));
+    }
+    let words = words_of(rt.alloc(), line)?;
+    print_answer(rt, request_of(rt.alloc(), words.as_slice()))
+}
+
+/// Prints what words ask for, or what is said of them.
+fn print_answer<A: Debug + Drop>(rt: &impl Print, answer: Result<A, WrongWords>) -> io::Result<()> {
+    match answer {
+        Ok(asked) => println!(rt; "{asked:?}"),
+        Err(WrongWords::Usage(said)) => print_said(rt, said.as_str()),
+        Err(WrongWords::OutOfMemory(_)) => println!(rt; "out of memory"),
+    }
+}
+
+/// Prints each line of what is said, but the empty ones.
+fn print_said(rt: &impl Print, said: &str) -> io::Result<()> {
+    for line in said.lines().filter(|line| !line.is_empty()) {
+        println!(rt; "! {line}")?;
+    }
+    Ok(())
+}
+
+fn main(rt: HostRuntime) -> io::Result<()> {
+    for line in rt.lines(rt.alloc()) {
+        print_asked(&rt, line?.as_str())?;
+    }
+    Ok(())
+}

@@ -1,9 +1,0 @@
-use Rattle.std.proofs.Common.{refl}
-use Rattle.host_calls.specs.Programs.{subject_for}
-use Rattle.host_calls.proofs.Faults.{judged_undecoded}
-use Rattle.host_calls.proofs.loading.judge.Goals as goal
-
-pub returns-in-Err-clause-refused : goal.returns-in-Err-clause-refused
-returns-in-Err-clause-refused c =
-    judged_undecoded (subject_for c.args.shapes.now c.args.text.now c.args.ctx_size) c.args.text.now c.in-Err.refused c.fault.result refl c.fault.ensures c.in-Err.ensures.refused
-    (λ other fails. let same = c.in-Err.ensures.judged other fails in cc)

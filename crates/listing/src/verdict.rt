@@ -1,0 +1,111 @@
+//! What is reported of a text.
+
+ghost use Rattle.verifier.specs.Subject.{IsContextSize};
+ghost use Rattle.verifier.specs.Verified.{AreShapes};
+
+use crate::edges::Edges;
+use crate::knowledge::Knowledge;
+use bpf_decode::decode;
+use findings::{CLEAR, Cut, Verdict, is_within_limits};
+use host_types::limits::MAX_MAPS;
+use host_types::{Refused, Shape};
+use std::alloc::{AllocError, Global};
+use verifier::{Candidate, Verified, is_context_size, verify};
+
+/// What is reported of a text.
+#[derive(Drop)]
+pub struct Listed {
+    /// Why the verifier refuses it, if it does.
+    pub refused: Option<Refused>,
+    /// What is known at its slots, of a text that is well formed.
+    pub known: Option<Known>,
+    /// What gives the frames: the text, or one that begins as it does where it is refused.
+    pub verified: Option<Verified>,
+}
+
+/// What is known at the slots of a text, and which lead to which.
+#[derive(Drop)]
+pub struct Known {
+    pub knowledge: Knowledge,
+    pub edges: Edges,
+}
+
+impl Listed {
+    /// What is reported of a text that was verified: nothing where no text can be verified so.
+    pub fn of(alloc: Global, verdict: &Verdict<'_>) -> Option<Listed> {
+        if verdict.shapes.len() > MAX_MAPS
+            || !verdict.shapes.iter().all(|shape| is_within_limits(shape))
+            || !is_context_size(verdict.context_size)
+        {
+            return None;
+        }
+        let known = known_in(alloc, verdict.text, verdict.shapes, verdict.context_size);
+        Some(
+            match verified_of(alloc, verdict.text, verdict.shapes, verdict.context_size) {
+                Ok(verified) => Listed {
+                    refused: None,
+                    known,
+                    verified: Some(verified),
+                },
+                Err(refused) => Listed {
+                    refused: Some(refused),
+                    known,
+                    verified: verified_before(alloc, verdict, refused),
+                },
+            },
+        )
+    }
+
+    /// How many slots of a text of so many are listed: those up to the refused one.
+    pub fn listed(&self, slots: u32) -> u32 {
+        match self.refused {
+            Some(refused) => refused.slot.saturating_add(1).min(slots),
+            None => slots,
+        }
+    }
+}
+
+/// The verifier's judgement.
+fn verified_of(
+    alloc: Global,
+    text: &[u8],
+    shapes: &[Option<Shape>],
+    context_size: u32,
+) -> Result<Verified, Refused>
+    requires shapes { AreShapes shapes.now }
+    requires context { IsContextSize context_size }
+{
+    let program = decode(alloc, text)?;
+    verify(alloc, program, shapes, context_size)
+}
+
+/// A program that begins with the slots before a refused one.
+fn verified_before(alloc: Global, verdict: &Verdict<'_>, refused: Refused) -> Option<Verified> {
+    let cut = Cut {
+        alloc,
+        verdict: *verdict,
+        slot: refused.slot as usize,
+    };
+    cut.with(CLEAR)
+}
+
+/// What is known at the slots of a text, if it is well formed and there is memory for it.
+fn known_in(
+    alloc: Global,
+    text: &[u8],
+    shapes: &[Option<Shape>],
+    context_size: u32,
+) -> Option<Known>
+    requires shapes { AreShapes shapes.now }
+    requires context { IsContextSize context_size }
+{
+    let program = decode(alloc, text).ok()?;
+    known_of(alloc, Candidate::new(program, shapes, context_size)).ok()
+}
+
+/// What is known at the slots of a candidate's text.
+fn known_of(alloc: Global, candidate: Candidate) -> Result<Known, AllocError> {
+    let knowledge = Knowledge::of(alloc, candidate)?;
+    let edges = Edges::of(alloc, &knowledge)?;
+    Ok(Known { knowledge, edges })
+}

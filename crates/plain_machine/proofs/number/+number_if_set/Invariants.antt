@@ -1,5 +1,0 @@
-use Rattle.std.proofs.Common.{length}
-use Rattle.plain_machine.proofs.number.+number_if_set.Given as goal
-
-abbrev pub decreases-number_if_set : goal.decreases-number_if_set
-decreases-number_if_set l = length l.bytes.now

@@ -1,5 +1,0 @@
-use Rattle.plain_machine.proofs.Copies.{AreCopied}
-use Rattle.plain_machine.proofs.number.copy_if_set.Given as goal
-
-abbrev pub invariant-loop-at : goal.invariant-loop-at
-invariant-loop-at l = AreCopied l.bytes l.values l.at

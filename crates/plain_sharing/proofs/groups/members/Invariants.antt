@@ -1,9 +1,0 @@
-use Rattle.std.proofs.Common.{◌≡◌, ◌≤◌, ◌*◌, sum_by, take, length}
-use Rattle.plain_sharing.specs.View.{places_of}
-use Rattle.plain_sharing.proofs.groups.members.Given as goal
-
-abbrev pub invariant-loop-group : goal.invariant-loop-group
-invariant-loop-group l = record {
-  sum : l.members ≡ sum_by (λ group. length group) (take l.group-index (places_of l.groups));
-  small : l.members ≤ l.group-index * 18446744073709551616;
-}

@@ -1,6 +1,0 @@
-use Rattle.std.proofs.Common.{refl}
-use Rattle.verifier.proofs.WithoutMaps.{accepted_without_maps}
-use Rattle.rows_compared.proofs.runs.judged.Goals as goal
-
-pub returns : goal.returns
-returns c = accepted_without_maps c.verify.result _ refl c.verify.ensures.subject
