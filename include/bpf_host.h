@@ -61,7 +61,7 @@ struct bpf_host_options {
     uint32_t max_page_sharing; /* how many pages share a frame, 2 to 65535 */
 };
 
-/* The options of a host that is told none. */
+/* The options of a host that is given none. */
 #define BPF_HOST_OPTIONS {100, 1, 0, 256}
 
 /* The numbers of the options, for bpf_host_set. */
@@ -83,6 +83,12 @@ struct bpf_host_refused {
 struct bpf_host_run {
     uint64_t ret;
     uint32_t steps;
+};
+
+/* The shape of a map: the bytes of a value, and how many values there are. */
+struct bpf_host_shape {
+    uint32_t value_size;
+    uint32_t entries;
 };
 
 /* The counters, by the names of the kernel's manual. */
@@ -113,6 +119,9 @@ uint32_t bpf_host_create_map(struct bpf_host *host, uint32_t tenant, uint32_t va
 
 /* Takes away a map that no loaded program names. 100, 42, 36, 34, 43. */
 uint32_t bpf_host_drop_map(struct bpf_host *host, uint32_t tenant, uint32_t map);
+
+/* Writes the shape of a map. A tenant that isn't there has no map. 100, 34. */
+uint32_t bpf_host_shape(struct bpf_host *host, uint32_t tenant, uint32_t map, struct bpf_host_shape *shape);
 
 /* Verifies a program, slots of 8 bytes, for the tenant's maps and contexts of `context_size` bytes, and writes its number to `*program`:
  * 0 to 7. The text is copied. 100, 42, 36, 45, 39, 1 to 25, 41. */

@@ -86,12 +86,16 @@ static void check_closed(struct bpf_host *host)
     struct bpf_host_counters same = counters;
     struct bpf_host_run run = {5, 6};
     struct bpf_host_refused refused = {77, 78, 79};
+    struct bpf_host_shape shape = {7, 8};
     uint8_t bytes[8] = {9};
     uint32_t number = 99;
     bool ended = true;
     CHECK(bpf_host_create_map(host, 0, 8, 1, true, &number, &refused), 100);
     CHECK(bpf_host_load(host, 0, bytes, 8, 0, &number, &refused), 100);
     CHECK(bpf_host_drop_map(host, 0, 0), 100);
+    CHECK(bpf_host_shape(host, 0, 0, &shape), 100);
+    CHECK(shape.value_size, 7);
+    CHECK(shape.entries, 8);
     CHECK(bpf_host_unload(host, 0, 0), 100);
     CHECK(bpf_host_run(host, 0, 0, bytes, 0, &run, &refused), 100);
     CHECK(bpf_host_begin(host, 0, 0, bytes, 0, &refused), 100);
@@ -108,6 +112,26 @@ static void check_closed(struct bpf_host *host)
     CHECK(memcmp(&counters, &same, sizeof same), 0);
     check_untouched(&run, ended, &refused);
     CHECK(host->is_open, false);
+}
+
+/* The shapes of a host's maps, and none where there is no map. */
+static void check_shapes(struct bpf_host *host)
+{
+    struct bpf_host_shape shape = {7, 8};
+    CHECK(bpf_host_shape(host, 0, 0, &shape), 34);
+    CHECK(make_map(host, 0, 24, 3), 0);
+    CHECK(make_map(host, 0, 1, 65), 0);
+    CHECK(bpf_host_shape(host, 0, 2, &shape), 34);
+    CHECK(bpf_host_shape(host, 0, 8, &shape), 34);
+    CHECK(bpf_host_shape(host, 1, 0, &shape), 34);
+    CHECK(shape.value_size, 7);
+    CHECK(shape.entries, 8);
+    CHECK(bpf_host_shape(host, 0, 0, &shape), 0);
+    CHECK(shape.value_size, 24);
+    CHECK(shape.entries, 3);
+    CHECK(bpf_host_shape(host, 0, 1, &shape), 0);
+    CHECK(shape.value_size, 1);
+    CHECK(shape.entries, 65);
 }
 
 void test_handles(void)
@@ -131,6 +155,7 @@ void test_handles(void)
     check_closed(&host);
     bpf_host_free(&host);
     CHECK(bpf_host_new(4, 1, &options, &host), 0);
+    check_shapes(&host);
     bpf_host_free(&host);
     CHECK(strcmp(bpf_host_code_name(31), "NoFrames"), 0);
     CHECK(strcmp(bpf_host_code_name(100), "Closed"), 0);

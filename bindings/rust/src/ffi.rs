@@ -34,6 +34,13 @@ pub struct Run {
 
 #[repr(C)]
 #[derive(Clone, Copy, Default)]
+pub struct Shape {
+    pub value_size: u32,
+    pub entries: u32,
+}
+
+#[repr(C)]
+#[derive(Clone, Copy, Default)]
 pub struct Counters {
     pub full_scans: u64,
     pub pages_shared: u32,
@@ -98,6 +105,7 @@ extern "C" {
         ended: *mut bool,
         run: *mut Run,
     ) -> u32;
+    pub fn bpf_host_shape(host: *mut Handle, tenant: u32, map: u32, shape: *mut Shape) -> u32;
     pub fn bpf_host_lookup(
         host: *mut Handle,
         tenant: u32,

@@ -55,4 +55,4 @@ mod tenant;
 
 pub use host::{Counters, Host, Options, Setting};
 pub use refused::{Frames, Refused};
-pub use tenant::{Map, OpenRun, Program, Run, Tenant};
+pub use tenant::{Map, OpenRun, Program, Run, Shape, Tenant};

@@ -20,6 +20,13 @@ pub struct Map<'h> {
     value_size: u32,
 }
 
+/// The shape of a map: the bytes of a value, and how many values there are.
+#[derive(Clone, Copy, Debug, PartialEq, Eq)]
+pub struct Shape {
+    pub value_size: u32,
+    pub entries: u32,
+}
+
 /// An accepted program of a tenant. Where it is let go, it stays loaded; `unload` takes it away.
 #[must_use = "the program stays loaded, but nothing can run it"]
 pub struct Program<'h> {
@@ -74,6 +81,20 @@ impl<'h> Tenant<'h> {
         })
     }
 
+    /// The tenant's map of a number, which was made before.
+    pub fn map(&self, number: u32) -> Result<Map<'h>, Refused> {
+        let mut shape = ffi::Shape::default();
+        // SAFETY: as in `create_map`.
+        let code =
+            unsafe { ffi::bpf_host_shape(self.host.handle(), self.number, number, &mut shape) };
+        Refused::check(code, ffi::Refused::default())?;
+        Ok(Map {
+            tenant: *self,
+            number,
+            value_size: shape.value_size,
+        })
+    }
+
     /// Loads a program for a context of so many bytes: a multiple of 8, up to 256. It is verified for the tenant's maps.
     pub fn load(&self, text: &[u8], context_size: u32) -> Result<Program<'h>, Refused> {
         let (mut number, mut refused) = (0, ffi::Refused::default());
@@ -102,6 +123,21 @@ impl<'h> Map<'h> {
     /// The number by which programs name the map.
     pub fn number(&self) -> u32 {
         self.number
+    }
+
+    /// The map's shape.
+    pub fn shape(&self) -> Result<Shape, Refused> {
+        let mut shape = ffi::Shape::default();
+        // SAFETY: as in `create_map`.
+        let code = unsafe {
+            let host = self.tenant.host.handle();
+            ffi::bpf_host_shape(host, self.tenant.number, self.number, &mut shape)
+        };
+        Refused::check(code, ffi::Refused::default())?;
+        Ok(Shape {
+            value_size: shape.value_size,
+            entries: shape.entries,
+        })
     }
 
     /// Reads an element into a buffer of the map's value size.

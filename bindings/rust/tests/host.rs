@@ -1,6 +1,6 @@
 //! What a program in Rust sees of a host: values, refusals and counters of docs/HOST.md and docs/MERGING.md.
 
-use bpf_host::{Counters, Frames, Host, Options, Refused, Run, Setting};
+use bpf_host::{Counters, Frames, Host, Options, Refused, Run, Setting, Shape};
 
 /// r0 = 42, exit.
 const ANSWER: &str = "b70000002a0000009500000000000000";
@@ -43,6 +43,23 @@ fn a_map_keeps_what_runs_and_updates_write() {
     assert_eq!(map.get(0), Ok(vec![3, 0, 0, 0, 0, 0, 0, 0]));
     map.update(0, &[9, 0, 0, 0, 0, 0, 0, 0]).unwrap();
     assert_eq!(counter.run(&[]).unwrap().ret, 10);
+}
+
+#[test]
+fn a_map_is_found_by_its_number() {
+    let host = host(4, 2);
+    let made = host.tenant(1).create_map(24, 3, true).unwrap();
+    made.update(2, &[7; 24]).unwrap();
+    let found = host.tenant(1).map(0).unwrap();
+    let shape = Shape {
+        value_size: 24,
+        entries: 3,
+    };
+    assert_eq!((made.shape(), found.shape()), (Ok(shape), Ok(shape)));
+    assert_eq!(found.get(2), Ok(vec![7; 24]));
+    assert_eq!(code(host.tenant(0).map(0).map(drop)), 34);
+    made.remove().map_err(|(_, refused)| refused).unwrap();
+    assert_eq!(code(found.shape().map(drop)), 34);
 }
 
 #[test]

@@ -18,7 +18,8 @@ use Rattle.interp.specs.Machine.{MachineState, Outcome, Next, start_state}
 use Rattle.interp.specs.Runs.{Reaches, Runs}
 
 -- Where a run begins, so far as it is known: with a context and the maps as they were then; or, for a run that
--- was found open, with the state that it had, after so many steps.
+-- was found open, with the state that it had, after so many steps. A list of events that begins with a Step of an open
+-- run says nothing of that run's context: for this list the run is `found_open s n`.
 pub data Beginning : Type 0 where
   started : List ℕ → FlatMaps → Beginning
   found_open : MachineState → ℕ → Beginning

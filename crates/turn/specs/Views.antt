@@ -5,6 +5,8 @@ use Rattle.page_table.specs.State.{MemoryState, part}
 
 -- A view: the seat's own tenants, the first and the one after the last; whether it holds the memory; a memory that has
 -- the parts which it knows; and the turns that it made, in order, each the memory as it was taken and as it was given.
+-- `seen` of a new seat is the memory with which the turn was made; while it holds, the memory that it took; after it gave,
+-- the memory that it gave. Of that only its own tenants' parts are still so: others have had turns since.
 pub record SeatView : Type 0 where
   pub first : ℕ
   pub end : ℕ

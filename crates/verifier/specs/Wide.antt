@@ -117,7 +117,8 @@ raised_table extra table = map (option_map (raised_description extra)) table
 abbrev pub IsKeptWide : ℕ → Subject → Table → ℕ → Description → Type 0
 IsKeptWide extra p table slot d = (targets : List (ℕ × Description)) × (flow_at extra p slot d ≡ Ok targets) × All (IsContained table) targets
 
--- a lawful table whose numbers of offsets are `extra` more than those of the verifier
+-- A lawful table whose numbers of offsets are `extra` more than those of the verifier. `flow_at` is `flow` after `extra` is
+-- taken off; the clauses that differ are those of pointers to a map's value: moved, loaded from, stored to, compared, passed.
 pub record IsWideLawful (p : Subject) (extra : ℕ) (table : Table) : Type 0 where
   pub start : IsContained table (0, start_description)
   pub instructions : (slot : ℕ) (d : Description) → described table slot ≡ Some d → IsInstruction p.text slot
