@@ -25,12 +25,12 @@ _bpf_text() {
     local word=${COMP_WORDS[COMP_CWORD]}
     case $word in
         @*) _bpf_host_files '@' "${word#@}" ;;
-        *) mapfile -t COMPREPLY < <(compgen -W "--context --help $1" -- "$word") ;;
+        *) mapfile -t COMPREPLY < <(compgen -W "--context --help --version $1" -- "$word") ;;
     esac
 }
 
 _bpf_explain() {
-    _bpf_text '--all'
+    _bpf_text '--all --lower --html'
 }
 
 _bpf_lower() {

@@ -264,10 +264,10 @@ fn on_reach(insn: &Insn) -> Option<Advice> {
             ..
         } => (
             "the number may lead more than 65536 bytes away from the map's value",
-            "bound it before: mask it, or compare it as an unsigned number of 64 bits. Of a signed \
-                compare, and of one with the low 32 bits, nothing is known. In C a compare behind a \
-                remainder, or one that can't fail, is left out: put `asm volatile(\"\" : \"+r\"(i))` \
-                before it",
+            "bound it before: mask it, or compare it as an unsigned number of 64 bits. A signed \
+                compare bounds nothing, and one with the low 32 bits just a number below 2^32. In C a \
+                compare after a remainder, or one that can't fail, is left out: put \
+                `asm volatile(\"\" : \"+r\"(i))` before it",
         ),
         Operation::Load { .. } | Operation::Store { .. } => (
             "the access may lie outside the map's value",
@@ -290,8 +290,8 @@ fn on_alignment(insn: &Insn) -> Option<Advice> {
         Operation::Load { .. } | Operation::Store { .. } => (
             "the place of the access may be no multiple of its size",
             "use multiples of the size; an index keeps them by a shift to the left, or by a mask \
-                without the low bits; in C mark the struct `__attribute__((packed))`, or read single \
-                bytes",
+                without the low bits; in C mark the struct `__attribute__((packed))`, or copy the field by \
+                `__builtin_memcpy` from a `char *`, as of a struct of a kernel header",
         ),
         Operation::Call => (
             "the key's place is no multiple of 4",

@@ -2,24 +2,24 @@
 //! or checks a program.
 #![tactic(auto)]
 
+mod event_line;
 mod progress;
 
 use command_line::{Request, WrongWords, request_of};
-use engines::Watch;
 use engines::check::check;
 use engines::replay::replay;
-use host_file::FileFault;
+use event_line::event_line;
+use host_file::{BadFile, EntryIndex, FileFault, MAX_BYTES};
 use progress::Plans;
 pub use progress::Progress;
 use serving::serve_file;
 use std::alloc::{AllocError, Global};
 use std::fs;
-use std::io::{self, Write};
+use std::io::{self, Read, Seek, Write};
 use std::rt::Files;
 use std::sync::Wait;
 use std::thread::Threads;
 use std::time::Clock;
-use tenant_workers::Gate;
 use terminal_text::quoted;
 
 /// Does what words ask for, the program's name being the first of them. What a refusal means goes to `errors`. Answers
@@ -40,12 +40,15 @@ where
     let alloc = rt.alloc();
     match request_of(alloc, diagnostics).map_err(words_fault)? {
         Request::Replay { path } => {
-            let answer = replay_at(rt, path, output, errors, &mut progress);
-            name_file(alloc, errors, path, answer)
+            let mut file = open(rt, path, errors)?;
+            let answer = replay(alloc, &mut file, output, errors, &mut progress);
+            name_file(alloc, errors, path, &mut file, answer)
         }
         Request::Serve { path } => {
-            let answer = serve_at(rt, path, output, errors, &Plans::new(progress));
-            name_file(alloc, errors, path, answer)
+            let mut file = open(rt, path, errors)?;
+            let gate = Plans::new(progress);
+            let answer = serve_file(rt, alloc, &mut file, output, errors, &gate);
+            name_file(alloc, errors, path, &mut file, answer)
         }
         Request::Check {
             hex,
@@ -55,25 +58,69 @@ where
     }
 }
 
-/// Writes which file it is that can't be read, or is bad.
-fn say_path<W: Write>(alloc: Global, diagnostics: &mut W, path: &str) -> io::Result<()> {
-    match quoted(alloc, path) {
-        Ok(path) => write!(diagnostics, "{path}: "),
-        Err(AllocError) => Ok(()),
+/// Opens the file at a path. Where it can't be opened, it is named first.
+fn open<R: AllocGlobal + Files, E: Write>(
+    rt: &R,
+    path: &str,
+    errors: &mut E,
+) -> Result<R::File, FileFault> {
+    match fs::open(rt, path) {
+        Ok(file) => Ok(file),
+        Err(error) => {
+            let _ = say_path(rt.alloc(), errors, path, None);
+            Err(FileFault::Read(error))
+        }
     }
 }
 
-/// The answer for the file at a path. Where the file can't be read, or is bad, it is named first.
-fn name_file<E: Write>(
+/// Writes which file it is that can't be read, or is bad, and at which line.
+fn say_path<W: Write>(
+    alloc: Global,
+    diagnostics: &mut W,
+    path: &str,
+    line: Option<usize>,
+) -> io::Result<()> {
+    let Ok(path) = quoted(alloc, path) else {
+        return Ok(());
+    };
+    match line {
+        Some(line) => write!(diagnostics, "{path}:{line}: "),
+        None => write!(diagnostics, "{path}: "),
+    }
+}
+
+/// The answer for a file at a path. Where the file can't be read, is bad, or finds no memory, it is named first, and of a bad
+/// event the line.
+fn name_file<R: Read + Seek, E: Write>(
     alloc: Global,
     errors: &mut E,
     path: &str,
+    file: &mut R,
     answer: Result<u8, FileFault>,
 ) -> Result<u8, FileFault> {
-    if let Err(FileFault::Read(_) | FileFault::Bad(_)) = &answer {
-        let _ = say_path(alloc, errors, path);
-    }
+    let line = match &answer {
+        Err(
+            FileFault::Bad(
+                BadFile {
+                    entry_index: EntryIndex::Event(number),
+                    ..
+                },
+            ),
+        ) => line_in(alloc, file, *number),
+        Err(FileFault::Read(_) | FileFault::Bad(_) | FileFault::OutOfMemory(_)) => None,
+        _ => return answer,
+    };
+    let _ = say_path(alloc, errors, path, line);
     answer
+}
+
+/// The line of a file at which the table of an event begins. None where the file can't be read a second time, as a pipe.
+fn line_in<R: Read + Seek>(alloc: Global, file: &mut R, number: usize) -> Option<usize> {
+    file.rewind().ok()?;
+    let mut bytes = Vec::new(alloc);
+    let mut front = file.take(MAX_BYTES as u64);
+    front.read_to_end(&mut bytes).ok()?;
+    event_line(str::from_utf8(bytes.as_slice()).ok()?, number)
 }
 
 /// The fault of words that ask for nothing.
@@ -82,31 +129,4 @@ fn words_fault(wrong: WrongWords) -> FileFault {
         WrongWords::Usage(said) => FileFault::Usage(said),
         WrongWords::OutOfMemory(error) => FileFault::OutOfMemory(error),
     }
-}
-
-/// Replays the host file at a path.
-fn replay_at<R: AllocGlobal + Files, W: Write, E: Write, V: Watch>(
-    rt: &R,
-    path: &str,
-    output: &mut W,
-    errors: &mut E,
-    progress: &mut V,
-) -> Result<u8, FileFault> {
-    let mut file = fs::open(rt, path).map_err(FileFault::Read)?;
-    replay(rt.alloc(), &mut file, output, errors, progress)
-}
-
-/// Serves the host file at a path.
-fn serve_at<R, W: Write, E: Write, G: Gate + Sync>(
-    rt: &R,
-    path: &str,
-    output: &mut W,
-    errors: &mut E,
-    gate: &G,
-) -> Result<u8, FileFault>
-where
-    R: AllocGlobal + Files + Threads + Wait + Sync,
-{
-    let mut file = fs::open(rt, path).map_err(FileFault::Read)?;
-    serve_file(rt, rt.alloc(), &mut file, output, errors, gate)
 }

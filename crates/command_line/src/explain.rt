@@ -1,6 +1,9 @@
 //! The words of `explain`.
 
-use crate::{WrongWords, answered_of, context, hex_or_file, said_of, shapes, usage};
+use crate::{
+    Asked, VERSION, WrongWords, answered_of, context, hex_or_file, said_of, shapes, text_asked,
+    usage,
+};
 use clap::{Arg, ArgAction, Command};
 use std::alloc::{AllocError, Global};
 
@@ -18,26 +21,38 @@ pub struct ToExplain<'a> {
     pub all: bool,
     /// Whether the program is to be lowered first.
     pub lower: bool,
+    /// Whether an HTML page is to be written.
+    pub html: bool,
 }
 
 /// What the words of `explain` ask for, the program's name being the first of them.
-pub fn explained_of<'a>(alloc: Global, words: &'a [String]) -> Result<ToExplain<'a>, WrongWords> {
+pub fn explained_of<'a>(
+    alloc: Global,
+    words: &'a [String],
+) -> Result<Asked<ToExplain<'a>>, WrongWords> {
     let explain = command(alloc).map_err(WrongWords::OutOfMemory)?;
-    let Ok(matches) = explain.try_get_matches_from(words) else {
-        let answered = answered_of(alloc, NAME, words).map_err(WrongWords::OutOfMemory)?;
-        return Err(usage(said_of(alloc, command(alloc), answered.as_slice())));
+    let matches = match explain.try_get_matches_from(words) {
+        Ok(matches) => matches,
+        Err(error) => {
+            if let Some(text) = text_asked(alloc, &error)? {
+                return Ok(Asked::Text(text));
+            }
+            let answered = answered_of(alloc, NAME, words).map_err(WrongWords::OutOfMemory)?;
+            return Err(usage(said_of(alloc, command(alloc), answered.as_slice())));
+        }
     };
     let Some(hex) = matches.get_str("HEX") else {
         return Err(usage(String::from_str(alloc, "no HEX is given")));
     };
     let shapes = matches.get_strs("V:E").unwrap_or(&[]);
-    Ok(ToExplain {
+    Ok(Asked::Program(ToExplain {
         hex,
         shapes: shapes.to_vec(alloc).map_err(WrongWords::OutOfMemory)?,
         context: matches.get_str("context").unwrap_or("0"),
         all: matches.get_flag("all"),
         lower: matches.get_flag("lower"),
-    })
+        html: matches.get_flag("html"),
+    }))
 }
 
 fn command<'a>(alloc: Global) -> Result<Command<'a>, AllocError> {
@@ -49,11 +64,17 @@ fn command<'a>(alloc: Global) -> Result<Command<'a>, AllocError> {
         .long("lower")
         .help("lowers the program first")
         .action(ArgAction::SetTrue);
+    let html = Arg::new(alloc, "html")
+        .long("html")
+        .help("writes an HTML page")
+        .action(ArgAction::SetTrue);
     Command::new(alloc, NAME)
+        .version(VERSION)
         .about("shows what the verifier knows at each instruction of a program")
         .arg(hex_or_file(alloc))?
         .arg(shapes(alloc))?
         .arg(context(alloc))?
         .arg(all)?
-        .arg(lower)
+        .arg(lower)?
+        .arg(html)
 }

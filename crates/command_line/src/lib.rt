@@ -5,7 +5,7 @@
 mod explain;
 mod lower;
 
-use clap::{Arg, ArgAction, ArgMatches, Command};
+use clap::{Arg, ArgAction, ArgMatches, Command, Error};
 pub use explain::{ToExplain, explained_of};
 pub use lower::{ToLower, lowered_of};
 use std::alloc::{AllocError, Global};
@@ -33,6 +33,18 @@ pub enum Request<'a> {
         context: &'a str,
     },
 }
+
+/// What the words of `explain` or `lower` ask for.
+#[derive(Debug, Drop)]
+pub enum Asked<T> {
+    /// To do what the program is for.
+    Program(T),
+    /// To print the help or the version, which is this text.
+    Text(String),
+}
+
+/// The version of `explain` and `lower`.
+const VERSION: &str = "0.1.0";
 
 /// Why words ask for nothing.
 #[derive(Debug, Drop)]
@@ -87,6 +99,17 @@ fn said_of<'a>(
     match command?.try_get_matches_from(answered) {
         Ok(_) => String::from_str(alloc, "the words make no request"),
         Err(error) => error.to_string(alloc),
+    }
+}
+
+/// The text of help or of a version, where an error says that it was asked for.
+fn text_asked(alloc: Global, error: &Error) -> Result<Option<String>, WrongWords> {
+    if error.use_stderr() {
+        return Ok(None);
+    }
+    match error.to_string(alloc) {
+        Ok(text) => Ok(Some(text)),
+        Err(error) => Err(WrongWords::OutOfMemory(error)),
     }
 }
 

@@ -1,6 +1,9 @@
 //! The words of `lower`.
 
-use crate::{WrongWords, answered_of, context, hex_or_file, said_of, shapes, usage};
+use crate::{
+    Asked, VERSION, WrongWords, answered_of, context, hex_or_file, said_of, shapes, text_asked,
+    usage,
+};
 use clap::{Arg, ArgAction, Command};
 use std::alloc::{AllocError, Global};
 
@@ -18,22 +21,31 @@ pub struct ToLower<'a> {
 }
 
 /// What the words of `lower` ask for, the program's name being the first of them.
-pub fn lowered_of<'a>(alloc: Global, words: &'a [String]) -> Result<ToLower<'a>, WrongWords> {
+pub fn lowered_of<'a>(
+    alloc: Global,
+    words: &'a [String],
+) -> Result<Asked<ToLower<'a>>, WrongWords> {
     let lower = command(alloc).map_err(WrongWords::OutOfMemory)?;
-    let Ok(matches) = lower.try_get_matches_from(words) else {
-        let answered = answered_of(alloc, NAME, words).map_err(WrongWords::OutOfMemory)?;
-        return Err(usage(said_of(alloc, command(alloc), answered.as_slice())));
+    let matches = match lower.try_get_matches_from(words) {
+        Ok(matches) => matches,
+        Err(error) => {
+            if let Some(text) = text_asked(alloc, &error)? {
+                return Ok(Asked::Text(text));
+            }
+            let answered = answered_of(alloc, NAME, words).map_err(WrongWords::OutOfMemory)?;
+            return Err(usage(said_of(alloc, command(alloc), answered.as_slice())));
+        }
     };
     let Some(hex) = matches.get_str("HEX") else {
         return Err(usage(String::from_str(alloc, "no HEX is given")));
     };
     let shapes = matches.get_strs("V:E").unwrap_or(&[]);
-    Ok(ToLower {
+    Ok(Asked::Program(ToLower {
         hex,
         shapes: shapes.to_vec(alloc).map_err(WrongWords::OutOfMemory)?,
         context: matches.get_str("context").unwrap_or("0"),
         stats: matches.get_flag("stats"),
-    })
+    }))
 }
 
 fn command<'a>(alloc: Global) -> Result<Command<'a>, AllocError> {
@@ -42,6 +54,7 @@ fn command<'a>(alloc: Global) -> Result<Command<'a>, AllocError> {
         .help("tells the slots before and after, and the copies of each loop")
         .action(ArgAction::SetTrue);
     Command::new(alloc, NAME)
+        .version(VERSION)
         .about("makes a program with the same runs that the verifier accepts")
         .arg(hex_or_file(alloc))?
         .arg(shapes(alloc))?

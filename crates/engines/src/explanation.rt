@@ -11,11 +11,12 @@ use advice::{
 };
 use bpf_decode::Insn;
 use disassembly::Assembly;
-use findings::{Verdict, write_findings};
+use findings::{CheckedText, write_findings};
 use host_core::Event;
 use host_file::HostFile;
 use host_types::rule::{BAD_LENGTH, CUT_WIDE};
 use host_types::{Fault, Opt, Options, Refused, Shape};
+use listing::write_differing;
 use std::alloc::Global;
 use std::io;
 use std::io::Write;
@@ -35,6 +36,9 @@ pub fn explain_check<W: Write>(
         _ => advice_on(fault.number()),
     };
     write_advice(diagnostics, fault, advice)?;
+    if fault == Fault::BadContext {
+        write!(diagnostics, "; the size is {}", asked.context_size)?;
+    }
     writeln!(diagnostics)
 }
 
@@ -45,34 +49,43 @@ fn explain_checked<W: Write>(
     asked: &CheckRequest,
     refused: Refused,
 ) -> io::Result<()> {
-    let verdict = Verdict {
+    let checked = CheckedText {
         text: asked.text.as_slice(),
         shapes: asked.shapes.as_slice(),
         context_size: asked.context_size,
     };
-    explain_verdict(alloc, diagnostics, &verdict, refused)?;
+    explain_refused_text(alloc, diagnostics, &checked, refused)?;
     writeln!(diagnostics)
 }
 
 /// Writes the refusal of a text, and what was known there.
-fn explain_verdict<W: Write>(
+fn explain_refused_text<W: Write>(
     alloc: Global,
     diagnostics: &mut W,
-    verdict: &Verdict<'_>,
+    checked: &CheckedText<'_>,
     refused: Refused,
 ) -> io::Result<()> {
-    explain_program(diagnostics, verdict.text, refused)?;
-    write_findings(alloc, diagnostics, verdict, refused)
+    explain_program(diagnostics, checked.text, refused)?;
+    write_findings(alloc, diagnostics, checked, refused)?;
+    write_differing(alloc, diagnostics, checked, refused)
 }
 
-/// Writes what the refusal of an event means. Of a program that was to be loaded, the maps of its tenant have these
-/// shapes by number.
+/// What a refused event is verified by.
+#[derive(Clone, Copy, Debug)]
+pub struct Known<'a> {
+    /// The shapes by number of the maps that a program may use which the event loads.
+    pub shapes: &'a [Option<Shape>],
+    /// The size of contexts that the program of the event's run was loaded with.
+    pub context_size: Option<u32>,
+}
+
+/// Writes what the refusal of an event means.
 pub fn explain_event<W: Write>(
     alloc: Global,
     diagnostics: &mut W,
     event: &Event,
     fault: Fault,
-    shapes: &[Option<Shape>],
+    known: &Known<'_>,
 ) -> io::Result<()> {
     match (event, fault) {
         (
@@ -83,16 +96,39 @@ pub fn explain_event<W: Write>(
             },
             Fault::Program(refused),
         ) => {
-            let verdict = Verdict {
+            let checked = CheckedText {
                 text: text.as_slice(),
-                shapes,
+                shapes: known.shapes,
                 context_size: *context_size,
             };
-            explain_verdict(alloc, diagnostics, &verdict, refused)?;
+            explain_refused_text(alloc, diagnostics, &checked, refused)?;
+        }
+        (_, Fault::BadContext) => {
+            write_advice(diagnostics, fault, advice_on_event(event, fault))?;
+            write_sizes(diagnostics, event, known.context_size)?;
         }
         _ => write_advice(diagnostics, fault, advice_on_event(event, fault))?,
     }
     writeln!(diagnostics)
+}
+
+/// Writes the size of contexts that an event gives, and that of its program, where it is known.
+fn write_sizes<W: Write>(
+    diagnostics: &mut W,
+    event: &Event,
+    loaded: Option<u32>,
+) -> io::Result<()> {
+    match event {
+        Event::Load { context_size, .. } => write!(diagnostics, "; the size is {context_size}"),
+        Event::Begin { context, .. } => {
+            write!(diagnostics, "; the size is {}", context.as_slice().len())?;
+            match loaded {
+                Some(size) => write!(diagnostics, ", and the program takes {size}"),
+                None => Ok(()),
+            }
+        }
+        _ => Ok(()),
+    }
 }
 
 /// The advice on the refusal of an event by its number and by what was to be done.

@@ -18,17 +18,29 @@ pub fn status_of(outcome: &Result<u8, FileFault>) -> u8
     }
 }
 
-/// Writes the words of a fault as whole lines, in which no character steers a terminal.
+/// Writes the words of a fault as whole lines, in which no character steers a terminal. Of an output that nobody reads any
+/// more, as after `| head`, the status alone speaks.
 pub fn write_fault<W: Write>(
     alloc: Global,
     diagnostics: &mut W,
     fault: &FileFault,
 ) -> io::Result<()> {
+    if is_unread(fault) {
+        return Ok(());
+    }
     match fault.to_string(alloc) {
         Ok(said) => write_plain(diagnostics, said.as_str().trim_end())?,
         Err(AllocError) => write!(diagnostics, "out of memory")?,
     }
     writeln!(diagnostics)
+}
+
+/// Whether a write failed since the reader of a pipe is gone.
+fn is_unread(fault: &FileFault) -> bool {
+    match fault {
+        FileFault::Write(error) => error.kind() == io::ErrorKind::BrokenPipe,
+        _ => false,
+    }
 }
 
 /// Writes a text in which a character that steers a terminal is written by its number.

@@ -12,6 +12,7 @@ mod session;
 mod watch;
 
 pub use arguments::words_from;
+pub use explanation::Known;
 pub use fault::{status_of, write_fault, written};
 pub use lines::write_reply;
 pub use replay::{file_from, refuse};

@@ -8,15 +8,15 @@ ghost use Rattle.host_file.specs.declared.command.Command.TheVariants.{Run};
 ghost use Rattle.engines.specs.Replay.{AreOf, AreOfAll, AreStepsToEnd, AreVisits, latest_run, one_more_run, pages_after, runs_begun};
 ghost use Rattle.engines.specs.Sessions.{AreStepsMade, HasPrinted, IsOneEvent, Performs};
 
-use crate::explanation::explain_event;
+use crate::explanation::{Known, explain_event};
 use crate::fault::written;
 use crate::lines::write_reply;
 use crate::watch::Watch;
 use host_core::{Event, Host, Reply};
 use host_file::{Command, FileFault, HostFile};
-use host_types::limits::MAX_MAPS;
+use host_types::limits::{MAX_MAPS, MAX_PROGRAMS};
 use host_types::{Fault, MapNo, Opt, Shape};
-use std::alloc::Global;
+use std::alloc::{AllocError, Global};
 use std::io::Write;
 
 /// A host at work, and what its output and its visits need to know.
@@ -29,6 +29,8 @@ pub struct Session {
     /// How many pages a visit without a count visits.
     pages_to_scan: u32,
     has_refused: bool,
+    /// The sizes of contexts that programs were loaded with, of each tenant eight, for words alone.
+    context_sizes: Vec<u32>,
 }
 
 impl Session {
@@ -40,16 +42,21 @@ impl Session {
         ensures refused { IfOk result (λ session. session.has_refused ≡ false) }
         ensures bad { IfErr result (λ fault. ¬ IsBad fault) }
     {
-        match vec![in alloc; 0; file.tenants as usize] {
-            Ok(begun) => Ok(Session {
-                alloc,
-                host,
-                begun,
-                pages_to_scan: file.options.pages_to_scan,
-                has_refused: false,
-            }),
-            Err(error) => Err(FileFault::OutOfMemory(error)),
-        }
+        let tenants = file.tenants as usize;
+        let Ok(begun) = vec![in alloc; 0; tenants] else {
+            return Err(FileFault::OutOfMemory(AllocError));
+        };
+        let Ok(context_sizes) = vec![in alloc; 0; MAX_PROGRAMS * tenants] else {
+            return Err(FileFault::OutOfMemory(AllocError));
+        };
+        Ok(Session {
+            alloc,
+            host,
+            begun,
+            pages_to_scan: file.options.pages_to_scan,
+            has_refused: false,
+            context_sizes,
+        })
     }
 
     /// Whether a refusal was written.
@@ -214,8 +221,8 @@ impl Session {
             Reply::Begun => self.count_run(event),
             Reply::Done => self.note_option(event),
             Reply::Refused(_) => self.has_refused = true,
+            Reply::Program(program) => self.note_context_size(event, *program),
             Reply::Map(_)
-            | Reply::Program(_)
             | Reply::Stepped
             | Reply::Ended { .. }
             | Reply::Visited(_)
@@ -272,11 +279,52 @@ impl Session {
 }
 
 impl Session {
+    /// Notes the size of contexts that a program was loaded with.
+    fn note_context_size(&mut self, event: &Event, program: u32)
+        ensures begun { self.new.begun.items ≡ self.old.begun.items }
+        ensures pages { self.new.pages_to_scan ≡ self.old.pages_to_scan }
+        ensures host { self.new.host ≡ self.old.host }
+        ensures refused { self.new.has_refused ≡ self.old.has_refused }
+    {
+        let Event::Load {
+            tenant,
+            context_size,
+            ..
+        } = event
+        else {
+            return;
+        };
+        let Some(index) = size_index(*tenant, program) else {
+            return;
+        };
+        if let Some(size) = self.context_sizes.get_mut(index) {
+            *size = *context_size;
+        }
+    }
+
     /// Writes, of a refusal, which event of the file was refused, and what that means.
     fn explain<E: Write>(&self, diagnostics: &mut E, number: usize, event: &Event, reply: &Reply) {
         if let Reply::Refused(fault) = reply {
-            let shapes = self.shapes_for(event);
-            explain_at(self.alloc, diagnostics, number, event, *fault, &shapes);
+            let known = Known {
+                shapes: &self.shapes_for(event),
+                context_size: self.context_size_for(event),
+            };
+            explain_at(self.alloc, diagnostics, number, event, *fault, &known);
+        }
+    }
+
+    /// The size of contexts that the program was loaded with of which an event begins a run.
+    fn context_size_for(&self, event: &Event) -> Option<u32> {
+        match event {
+            Event::Begin {
+                tenant,
+                program,
+                ..
+            } => {
+                let index = size_index(*tenant, *program)?;
+                self.context_sizes.get(index).copied()
+            }
+            _ => None,
         }
     }
 
@@ -292,6 +340,17 @@ impl Session {
     }
 }
 
+/// Where the size of contexts of a tenant's program is kept.
+fn size_index(tenant: u32, program: u32) -> Option<usize> {
+    let program = program as usize;
+    if program >= MAX_PROGRAMS {
+        return None;
+    }
+    (tenant as usize)
+        .checked_mul(MAX_PROGRAMS)?
+        .checked_add(program)
+}
+
 /// Whether a run is open now that wasn't.
 fn is_begun(reply: &Reply) -> bool
     ensures { IsTrue result ↔ (reply.now ≡ Begun) }
@@ -299,16 +358,16 @@ fn is_begun(reply: &Reply) -> bool
     matches!(reply, Reply::Begun)
 }
 
-/// Writes which event of the file was refused, and what that means. Of a program that was to be loaded, the maps of
-/// its tenant have these shapes by number. The line of the refusal is written: the words may be lost.
+/// Writes which event of the file was refused, and what that means. The line of the refusal is written: the words may be
+/// lost.
 pub fn explain_at<W: Write>(
     alloc: Global,
     diagnostics: &mut W,
     number: usize,
     event: &Event,
     fault: Fault,
-    shapes: &[Option<Shape>],
+    known: &Known<'_>,
 ) {
     let _ = write!(diagnostics, "event {number}: ");
-    let _ = explain_event(alloc, diagnostics, event, fault, shapes);
+    let _ = explain_event(alloc, diagnostics, event, fault, known);
 }

@@ -1,7 +1,7 @@
 ghost use Rattle.std.specs.Prelude.{◌↔◌, IfSome, IsTrue};
 ghost use Rattle.host_types.specs.Shapes.{IsShape};
 
-use crate::Verdict;
+use crate::CheckedText;
 use bpf_decode::decode;
 use host_types::limits::MAX_MAPS;
 use host_types::{Refused, Shape};
@@ -17,7 +17,7 @@ const EXIT: [u8; 8] = [0x95, 0, 0, 0, 0, 0, 0, 0];
 #[derive(Clone, Copy, Debug)]
 pub struct Cut<'a> {
     pub alloc: Global,
-    pub verdict: Verdict<'a>,
+    pub checked: CheckedText<'a>,
     pub slot: usize,
 }
 
@@ -48,8 +48,8 @@ impl<'a> Cut<'a> {
 
     /// What the verifier says of the text with another instruction at the slot, where there is memory for it.
     fn decode_and_verify(&self, there: [u8; 8]) -> Option<Result<Verified, Refused>> {
-        let shapes = self.verdict.shapes;
-        let context_size = self.verdict.context_size;
+        let shapes = self.checked.shapes;
+        let context_size = self.checked.context_size;
         if shapes.len() > MAX_MAPS
             || !shapes.iter().all(|shape| is_within_limits(shape))
             || !is_context_size(context_size)
@@ -64,7 +64,7 @@ impl<'a> Cut<'a> {
     /// The slots before the refused one, this instruction, and after it as many as there were that break no rule,
     /// so that each jump finds its target.
     fn text(&self, there: [u8; 8]) -> Result<Vec<u8>, AllocError> {
-        let whole = self.verdict.text;
+        let whole = self.checked.text;
         let mut text = Vec::new(self.alloc);
         text.extend_from_slice(whole.get(..self.slot.saturating_mul(8)).unwrap_or(whole))?;
         text.extend_from_slice(&there)?;

@@ -29,7 +29,7 @@ use unset::write_unset_bytes;
 
 /// What a text was verified for: maps of these shapes, by number, each there or not, and a context of so many bytes.
 #[derive(Clone, Copy, Debug)]
-pub struct Verdict<'a> {
+pub struct CheckedText<'a> {
     pub text: &'a [u8],
     pub shapes: &'a [Option<Shape>],
     pub context_size: u32,
@@ -40,23 +40,23 @@ pub struct Verdict<'a> {
 pub fn write_findings<W: Write>(
     alloc: Global,
     words: &mut W,
-    verdict: &Verdict<'_>,
+    checked: &CheckedText<'_>,
     refused: Refused,
 ) -> io::Result<()> {
     let slot = refused.slot as usize;
     let cut = Cut {
         alloc,
-        verdict: *verdict,
+        checked: *checked,
         slot,
     };
-    let (Some(insn), true) = (Insn::at(verdict.text, slot), is_of_values(refused)) else {
+    let (Some(insn), true) = (Insn::at(checked.text, slot), is_of_values(refused)) else {
         return Ok(());
     };
     let Some(verified) = cut.with(CLEAR) else {
         return Ok(());
     };
     let site = Site {
-        verdict: *verdict,
+        checked: *checked,
         refused,
         insn,
         kinds: Kinds::at(&verified, refused.slot),
@@ -69,14 +69,14 @@ pub fn write_findings<W: Write>(
 /// where the instruction breaks this rule. Of a rule that goes by no register nothing is written.
 pub fn write_limits<W: Write>(
     words: &mut W,
-    verdict: &Verdict<'_>,
+    checked: &CheckedText<'_>,
     refused: Refused,
     kinds: &Kinds,
 ) -> io::Result<()> {
-    match Insn::at(verdict.text, refused.slot as usize) {
+    match Insn::at(checked.text, refused.slot as usize) {
         Some(insn) if is_of_values(refused) => {
             let site = Site {
-                verdict: *verdict,
+                checked: *checked,
                 refused,
                 insn,
                 kinds: *kinds,

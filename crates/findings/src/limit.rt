@@ -8,15 +8,23 @@ use verifier_kinds::{Kind, Offsets, Range};
 /// What may stand in a register of the refused instruction.
 #[derive(Clone, Copy, Debug)]
 pub enum Limit {
-    /// An address up to this far from the beginning of its memory, or from R10. The least is reported where less was
-    /// known to be there.
-    Reach { least: Option<i64>, most: i64 },
+    /// The access begins at these offsets from the beginning of its memory, or from R10, and may begin up to `most`. The
+    /// least is named where the access may begin below it.
+    Reach {
+        low: i64,
+        high: i64,
+        least: Option<i64>,
+        most: i64,
+    },
     /// None at which the access is whole, since the memory has no more bytes than these.
     Nowhere(u32),
     /// An address of memory of so many bytes.
     Memory(u32),
     /// An address so far after a multiple of a number.
-    Multiple { of: u32, following: u32 },
+    Multiple {
+        of: u32,
+        following: u32,
+    },
     /// A number up to this one, if the sum is to be in a value.
     Index(i64),
     /// One number alone.
@@ -31,38 +39,43 @@ impl Limit {
             Kind::Scalar(range) => Limit::of_summand(site, register, range),
             _ if number == MISALIGNED => Limit::of_alignment(Access::by(site, register)?),
             Kind::Context(at) if number == OUTSIDE_CONTEXT => {
-                let size = site.verdict.context_size;
-                Some(Limit::of_memory(site, register, i64::from(at), size))
+                let size = site.checked.context_size;
+                let at = i64::from(at);
+                Some(Limit::of_memory(site, register, (at, at), size))
             }
             Kind::MapValue { map, offsets } if number == OUTSIDE_MAP => {
                 let size = site.value_size(map)?;
-                Some(Limit::of_memory(site, register, least(offsets), size))
+                let reach = (least(offsets), greatest(offsets));
+                Some(Limit::of_memory(site, register, reach, size))
             }
             Kind::Stack(at) if number == OUTSIDE_STACK => {
                 let access = Access::by(site, register)?;
-                Some(Limit::of_access(access, i64::from(at), -512, 0))
+                let at = i64::from(at);
+                Some(Limit::of_access(access, (at, at), -512, 0))
             }
             _ => None,
         }
     }
 
-    /// That of an address in memory of so many bytes, counted from its beginning.
-    fn of_memory(site: &Site<'_>, register: u8, low: i64, size: u32) -> Limit {
+    /// That of an address in memory of so many bytes, whose least and greatest offset from its beginning are known.
+    fn of_memory(site: &Site<'_>, register: u8, reach: (i64, i64), size: u32) -> Limit {
         match Access::by(site, register) {
             Some(access) if access.bytes > size => Limit::Nowhere(size),
-            Some(access) => Limit::of_access(access, low, 0, i64::from(size)),
+            Some(access) => Limit::of_access(access, reach, 0, i64::from(size)),
             None => Limit::Memory(size),
         }
     }
 
-    /// That of an access between two locations.
-    fn of_access(access: Access, low: i64, begin: i64, end: i64) -> Limit {
+    /// That of an access by way of an address with a least and a greatest offset, in memory between two offsets.
+    fn of_access(access: Access, reach: (i64, i64), begin: i64, end: i64) -> Limit {
         let offset = i64::from(access.offset);
-        let first = begin.saturating_sub(offset);
-        let reach = offset.saturating_add(i64::from(access.bytes));
+        let (low, high) = reach;
+        let low = low.saturating_add(offset);
         Limit::Reach {
-            least: if low < first { Some(first) } else { None },
-            most: end.saturating_sub(reach),
+            low,
+            high: high.saturating_add(offset),
+            least: if low < begin { Some(begin) } else { None },
+            most: end.saturating_sub(i64::from(access.bytes)),
         }
     }
 
@@ -124,11 +137,18 @@ pub fn greatest(offsets: Offsets) -> i64 {
 impl fmt::Display for Limit {
     fn fmt<W: fmt::Write>(&self, f: &mut fmt::Formatter<W>) -> fmt::Result {
         match *self {
-            Limit::Reach { least: None, most } => write!(f, "; at most {most} may stand here"),
             Limit::Reach {
-                least: Some(least),
+                low,
+                high,
+                least,
                 most,
-            } => write!(f, "; {least} to {most} may stand here"),
+            } => {
+                write_offsets(f, low, high)?;
+                match least {
+                    None => write!(f, "; at most {most}"),
+                    Some(least) => write!(f, "; {least} to {most}"),
+                }
+            }
             Limit::Nowhere(size) => write!(f, ", of {size} bytes: none may stand here"),
             Limit::Memory(size) => write!(f, ", of {size} bytes"),
             Limit::Multiple { of, following: 0 } => {
@@ -145,5 +165,14 @@ impl fmt::Display for Limit {
             }
             Limit::Constant => write!(f, "; one number alone may stand here"),
         }
+    }
+}
+
+/// Writes at which offsets an access begins.
+fn write_offsets<W: fmt::Write>(f: &mut fmt::Formatter<W>, low: i64, high: i64) -> fmt::Result {
+    if low == high {
+        write!(f, "; offset {low}")
+    } else {
+        write!(f, "; offsets {low} to {high}")
     }
 }

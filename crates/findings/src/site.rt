@@ -1,4 +1,4 @@
-use crate::Verdict;
+use crate::CheckedText;
 use bpf_decode::{FRAME_POINTER, Insn};
 use host_types::Refused;
 use verifier::Verified;
@@ -27,7 +27,7 @@ impl Kinds {
 /// The slot of a refusal, what stands there, and what was known there.
 #[derive(Clone, Copy, Debug)]
 pub struct Site<'a> {
-    pub verdict: Verdict<'a>,
+    pub checked: CheckedText<'a>,
     pub refused: Refused,
     pub insn: Insn,
     pub kinds: Kinds,
@@ -41,7 +41,7 @@ impl<'a> Site<'a> {
 
     /// How many bytes the values of a map have.
     pub fn value_size(&self, map: u32) -> Option<u32> {
-        let shape = self.verdict.shapes.get(map as usize)?.as_ref()?;
+        let shape = self.checked.shapes.get(map as usize)?.as_ref()?;
         Some(shape.value_size)
     }
 

@@ -1,9 +1,9 @@
 //! Reads command lines from the standard input, whose words bars set apart, and prints what each asks for, or
-//! what is said of words that ask for nothing. Words after `explain` and `lower` are those programs', and others
+//! what is said of words that ask for nothing, after `! `, and a text that is asked for, after `= `. Words after `explain` and `lower` are those programs', and others
 //! `bpf_host`'s. The file `stdout` of this crate says what is wanted.
 #![tactic(auto)]
 
-use command_line::{WrongWords, explained_of, lowered_of, request_of};
+use command_line::{Asked, WrongWords, explained_of, lowered_of, request_of};
 use std::alloc::{AllocError, Global};
 use std::fmt::Debug;
 use std::io;
@@ -27,29 +27,48 @@ fn print_asked(rt: &(impl AllocGlobal + Print), line: &str) -> io::Result<()> {
     println!(rt; "$ {}", line.escape_debug())?;
     if let Some(words) = line.strip_prefix("explain") {
         let words = words_of(rt.alloc(), words.trim_start())?;
-        return print_answer(rt, explained_of(rt.alloc(), words.as_slice()));
+        return print_asked_of(rt, explained_of(rt.alloc(), words.as_slice()));
     }
     if let Some(words) = line.strip_prefix("lower") {
         let words = words_of(rt.alloc(), words.trim_start())?;
-        return print_answer(rt, lowered_of(rt.alloc(), words.as_slice()));
+        return print_asked_of(rt, lowered_of(rt.alloc(), words.as_slice()));
     }
     let words = words_of(rt.alloc(), line)?;
     print_answer(rt, request_of(rt.alloc(), words.as_slice()))
+}
+
+/// Prints what words of `explain` or `lower` ask for, a text as what is said on standard output.
+fn print_asked_of<T: Debug + Drop>(
+    rt: &impl Print,
+    answer: Result<Asked<T>, WrongWords>,
+) -> io::Result<()> {
+    match answer {
+        Ok(Asked::Program(program)) => println!(rt; "{program:?}"),
+        Ok(Asked::Text(text)) => print_lines(rt, "=", text.as_str()),
+        Err(wrong) => print_wrong(rt, &wrong),
+    }
 }
 
 /// Prints what words ask for, or what is said of them.
 fn print_answer<A: Debug + Drop>(rt: &impl Print, answer: Result<A, WrongWords>) -> io::Result<()> {
     match answer {
         Ok(asked) => println!(rt; "{asked:?}"),
-        Err(WrongWords::Usage(said)) => print_said(rt, said.as_str()),
-        Err(WrongWords::OutOfMemory(_)) => println!(rt; "out of memory"),
+        Err(wrong) => print_wrong(rt, &wrong),
     }
 }
 
-/// Prints each line of what is said, but the empty ones.
-fn print_said(rt: &impl Print, said: &str) -> io::Result<()> {
-    for line in said.lines().filter(|line| !line.is_empty()) {
-        println!(rt; "! {line}")?;
+/// Prints what is said of words that ask for nothing.
+fn print_wrong(rt: &impl Print, wrong: &WrongWords) -> io::Result<()> {
+    match wrong {
+        WrongWords::Usage(said) => print_lines(rt, "!", said.as_str()),
+        WrongWords::OutOfMemory(_) => println!(rt; "out of memory"),
+    }
+}
+
+/// Prints each line of a text, but the empty ones, after a sign.
+fn print_lines(rt: &impl Print, sign: &str, text: &str) -> io::Result<()> {
+    for line in text.lines().filter(|line| !line.is_empty()) {
+        println!(rt; "{sign} {line}")?;
     }
     Ok(())
 }

@@ -1,17 +1,24 @@
 //! The listing of a text: its instructions slot by slot, and what the verifier knows at each of them.
 #![tactic(auto)]
 
+mod differing;
 mod edges;
 mod knowledge;
 mod lines;
+mod listed;
 mod location;
 mod paint;
+mod rows;
 mod seen;
 mod shown;
-mod verdict;
+mod text;
 mod words;
 
+pub use differing::write_differing;
 pub use knowledge::Knowledge;
 pub use lines::fold;
+pub use location::{Differing, Fact, Location, STACK_SLOTS};
 pub use paint::Paint;
+pub use rows::{Item, Row};
 pub use shown::{Beside, Detail, Listing};
+pub use text::Text;

@@ -82,10 +82,11 @@ impl fmt::Display for Fact {
 /// A location of which edges that meet say two things, the first two, and how many further edges say others.
 #[derive(Clone, Copy, Debug)]
 pub struct Differing {
-    location: Location,
-    first: (Fact, u32),
-    other: (Fact, u32),
-    more: usize,
+    pub location: Location,
+    /// What the first path says, and from which slot it comes.
+    pub first: (Fact, u32),
+    pub other: (Fact, u32),
+    pub more: usize,
 }
 
 impl Differing {

@@ -1,14 +1,12 @@
-//! The lines of a listing.
+//! The listing of a text: its rows, and what is shown at each.
 
 use crate::knowledge::Knowledge;
-use crate::lines::{Line, fold};
+use crate::listed::{Known, Listed};
 use crate::location::{Differing, Fact, Location, STACK_SLOTS};
-use crate::paint::{Paint, Part};
+use crate::rows::{Item, Row};
 use crate::seen::Seen;
-use crate::verdict::{Known, Listed};
 use bpf_decode::{FRAME_POINTER, Insn};
-use disassembly::AssemblyAt;
-use findings::{Kinds, Verdict, registers_read, write_limits};
+use findings::{CheckedText, Kinds, registers_read};
 use host_types::Refused;
 use std::alloc::{AllocError, Global};
 use std::io;
@@ -38,10 +36,8 @@ pub struct Beside<'a> {
 #[derive(Drop)]
 pub struct Listing<'a> {
     alloc: Global,
-    verdict: Verdict<'a>,
+    checked: CheckedText<'a>,
     all_known: Listed,
-    detail: Detail,
-    paint: Paint,
     beside: Option<Beside<'a>>,
 }
 
@@ -49,38 +45,69 @@ impl<'a> Listing<'a> {
     /// The listing of a text. There is none where no text can be verified for such maps and such a context.
     pub fn of(
         alloc: Global,
-        verdict: &Verdict<'a>,
-        detail: Detail,
-        paint: Paint,
+        checked: &CheckedText<'a>,
         beside: Option<Beside<'a>>,
     ) -> Option<Listing<'a>> {
         Some(Listing {
             alloc,
-            verdict: *verdict,
-            all_known: Listed::of(alloc, verdict)?,
-            detail,
-            paint,
+            checked: *checked,
+            all_known: Listed::of(alloc, checked)?,
             beside,
         })
     }
 
-    /// Writes the slots, up to the one for which the text is refused, if it is. Of a text that isn't well formed nothing
-    /// is known, and of one that has no whole slots nothing is written.
-    pub fn write_slots<W: Write>(&self, output: &mut W) -> io::Result<()> {
+    /// Where memory comes from.
+    pub fn alloc(&self) -> Global {
+        self.alloc
+    }
+
+    /// The text, and what it was verified for.
+    pub fn checked(&self) -> CheckedText<'a> {
+        self.checked
+    }
+
+    /// Why the text is refused, if it is.
+    pub fn refused(&self) -> Option<Refused> {
+        self.all_known.refused
+    }
+
+    /// How many whole slots the text has.
+    pub fn slots(&self) -> u32 {
+        u32::try_from(self.checked.text.len() / 8).unwrap_or(u32::MAX)
+    }
+
+    /// The rows, up to the slot for which the text is refused, if it is. A text that has no whole slots has none.
+    pub fn rows(&self) -> Result<Vec<Row>, AllocError> {
+        let mut rows = Vec::new(self.alloc);
         let mut begins = true;
         for slot in 0..self.all_known.listed(self.slots()) {
-            let Some(insn) = Insn::at(self.verdict.text, slot as usize) else {
-                return Ok(());
+            let Some(insn) = self.insn(slot) else {
+                break;
             };
-            if self.is_folded(slot) {
-                self.write_fold(output, slot)?;
-            } else if begins {
-                self.write_insn(output, slot, &insn)?;
-            } else {
-                self.write_half(output, slot)?;
-            }
+            self.push_row(&mut rows, slot, begins)?;
             begins = !begins || insn.slots() == 1;
         }
+        Ok(rows)
+    }
+
+    /// Adds the row of a slot, or the slot to the row of those that are left out before it.
+    fn push_row(&self, rows: &mut Vec<Row>, slot: u32, begins: bool) -> Result<(), AllocError> {
+        if !self.is_folded(slot) {
+            rows.push(if begins {
+                Row::Instruction(slot)
+            } else {
+                Row::SecondHalf(slot)
+            })?;
+            return Ok(());
+        }
+        if let Some(Row::Folded { last, .. }) = rows.last_mut() {
+            *last = slot;
+            return Ok(());
+        }
+        rows.push(Row::Folded {
+            first: slot,
+            last: slot,
+        })?;
         Ok(())
     }
 
@@ -92,134 +119,95 @@ impl<'a> Listing<'a> {
         }
     }
 
-    /// Writes a line for slots that are left out, at the first of them.
-    fn write_fold<W: Write>(&self, output: &mut W, slot: u32) -> io::Result<()> {
-        if slot > 0 && self.is_folded(slot - 1) {
-            return Ok(());
-        }
-        let mut last = slot;
-        for more in slot..self.slots() {
-            if !self.is_folded(more) {
-                break;
-            }
-            last = more;
-        }
-        let line = format!(in self.alloc; "  ..  slots {slot} to {last}: further copies")?;
-        self.paint.write(output, Part::Beside, line.as_str())?;
-        writeln!(output)
-    }
-
-    /// Writes the slots after the refused one that break a rule too, with what is known there and what would have to be:
-    /// those that are reached on edges on which no slot breaks one.
-    pub fn write_further<W: Write>(&self, output: &mut W) -> io::Result<()> {
+    /// The slots after the refused one that break a rule too: those that are reached on paths on which no slot breaks one.
+    pub fn further(&self) -> Result<Vec<Refused>, AllocError> {
+        let mut further = Vec::new(self.alloc);
         let (Some(refused), Some(known)) = (self.all_known.refused, &self.all_known.known) else {
-            return Ok(());
+            return Ok(further);
         };
         let knowledge = &known.knowledge;
         for slot in refused.slot.saturating_add(1)..knowledge.slots() {
             if let Some(number) = knowledge.breaks(slot) {
-                self.write_broken(output, knowledge, Refused { number, slot })?;
+                further.push(Refused { number, slot })?;
             }
         }
-        Ok(())
+        Ok(further)
     }
 
-    /// Writes a further slot that breaks a rule.
-    fn write_broken<W: Write>(
-        &self,
-        output: &mut W,
-        knowledge: &Knowledge,
-        refused: Refused,
-    ) -> io::Result<()> {
-        let Some(insn) = Insn::at(self.verdict.text, refused.slot as usize) else {
-            return Ok(());
-        };
-        let rule = format!(in self.alloc; "also {}", refused.fault())?;
-        self.paint.write(output, Part::Refused, rule.as_str())?;
-        writeln!(output)?;
-        self.write_insn(output, refused.slot, &insn)?;
-        let mut words = Vec::new(self.alloc);
-        let kinds = kinds_at(knowledge, refused.slot);
-        write_limits(&mut words, &self.verdict, refused, &kinds)?;
-        match str::from_utf8(words.as_slice()) {
-            Ok(words) if !words.is_empty() => {
-                let words = words.trim_start_matches("; ");
-                let said = format!(in self.alloc; "slot {}: {words}", refused.slot)?;
-                fold(output, said.as_str())
-            }
-            _ => Ok(()),
-        }
+    /// The instruction whose first slot this is, where the text has it.
+    pub fn insn(&self, slot: u32) -> Option<Insn> {
+        Insn::at(self.checked.text, slot as usize)
     }
 
-    /// How many whole slots the text has.
-    fn slots(&self) -> u32 {
-        u32::try_from(self.verdict.text.len() / 8).unwrap_or(u32::MAX)
+    /// The eight bytes of a slot, as one number whose hex digits are theirs in their order.
+    pub fn bytes(&self, slot: u32) -> u64 {
+        let begin = 8 * slot as usize;
+        let bytes = self.checked.text.get(begin..begin + 8).unwrap_or(&[]);
+        bytes
+            .iter()
+            .fold(0u64, |number, byte| number << 8 | u64::from(*byte))
     }
 
     /// The slot of the original for which a slot of a lowered text stands.
-    fn origin(&self, slot: u32) -> Option<u16> {
+    pub fn origin(&self, slot: u32) -> Option<u16> {
         match &self.beside {
             Some(beside) => beside.origins.get(slot as usize).copied(),
             None => None,
         }
     }
 
-    /// Writes what stands first in the line of a slot: its number, of a lowered text the original's, and its bytes.
-    fn write_head<W: Write>(&self, line: &mut Line<'_, W>, slot: u32) -> io::Result<()> {
-        let begin = 8 * slot as usize;
-        let bytes = self.verdict.text.get(begin..begin + 8).unwrap_or(&[]);
-        let number = bytes
-            .iter()
-            .fold(0u64, |number, byte| number << 8 | u64::from(*byte));
-        let head = match self.origin(slot) {
-            Some(origin) => format!(in self.alloc; "{slot:>4} {origin:>4}  {number:016x}")?,
-            None => format!(in self.alloc; "{slot:>4}  {number:016x}")?,
-        };
-        let part = match self.all_known.refused {
-            Some(refused) if refused.slot <= slot => Part::Refused,
-            _ => Part::Beside,
-        };
-        line.write(part, head.as_str())
+    /// Whether a path leads to a slot. Of a text that isn't well formed that isn't known.
+    pub fn reaches(&self, slot: u32) -> bool {
+        match &self.all_known.known {
+            Some(known) => known.knowledge.reaches(slot),
+            None => false,
+        }
     }
 
-    /// Writes the line of the second half of a wide instruction.
-    fn write_half<W: Write>(&self, output: &mut W, slot: u32) -> io::Result<()> {
-        let mut line = Line::begin(output, self.paint);
-        self.write_head(&mut line, slot)?;
-        line.end()
+    /// What is known of the registers at a slot.
+    pub fn kinds(&self, slot: u32) -> Kinds {
+        match &self.all_known.known {
+            Some(known) => kinds_at(&known.knowledge, slot),
+            None => Kinds([None; 11]),
+        }
     }
 
-    /// Writes the line of an instruction, and what is known there.
-    fn write_insn<W: Write>(&self, output: &mut W, slot: u32, insn: &Insn) -> io::Result<()> {
-        let assembly = AssemblyAt { insn: *insn, slot };
-        let assembly = format!(in self.alloc; "  {assembly}")?;
-        let mut line = Line::begin(output, self.paint);
-        self.write_head(&mut line, slot)?;
-        line.write(Part::Instruction, assembly.as_str())?;
+    /// Writes what paths to a refused slot say of a register that it reads, where it isn't the same.
+    pub fn write_differing<W: Write>(&self, words: &mut W, refused: Refused) -> io::Result<()> {
+        match &self.all_known.known {
+            Some(known) => known.write_differing(self.alloc, words, &self.checked, refused),
+            None => Ok(()),
+        }
+    }
+
+    /// What is shown at an instruction.
+    pub fn items(&self, slot: u32, insn: &Insn, detail: Detail) -> Result<Vec<Item>, AllocError> {
+        let mut items = Vec::new(self.alloc);
         if let Some(known) = &self.all_known.known {
             if known.knowledge.reaches(slot) {
-                self.write_known(&mut line, slot, insn, known)?;
+                self.push_known(&mut items, slot, insn, known, detail)?;
             } else {
-                line.item(Part::Beside, "not reached")?;
+                items.push(Item::NotReached)?;
             }
         }
         if let Some(verified) = &self.all_known.verified {
-            self.write_frames(&mut line, slot, verified)?;
+            push_frames(&mut items, slot, verified, detail)?;
         }
-        line.end()
+        Ok(items)
     }
 
-    /// Writes what is known at a slot, and where the edges that meet there say different things.
-    fn write_known<W: Write>(
+    /// Adds what is known at a slot, and where the paths that join there say different things.
+    fn push_known(
         &self,
-        line: &mut Line<'_, W>,
+        items: &mut Vec<Item>,
         slot: u32,
         insn: &Insn,
         known: &Known,
-    ) -> io::Result<()> {
+        detail: Detail,
+    ) -> Result<(), AllocError> {
         let knowledge = &known.knowledge;
-        let locations = match self.detail {
-            Detail::Read => self.locations_read(slot, insn, knowledge)?,
+        let locations = match detail {
+            Detail::Read => self.reads(slot, insn)?,
             Detail::All => all_locations(self.alloc)?,
         };
         if locations.is_empty() {
@@ -227,35 +215,32 @@ impl<'a> Listing<'a> {
         }
         let edges = known.edges.fulfilling(self.alloc, knowledge, slot)?;
         for location in &locations {
-            let fact = Fact::at(knowledge, slot, *location);
-            if fact.is_some() || self.detail == Detail::Read {
-                let item = self.item_of(*location, fact)?;
-                line.item(Part::Known, item.as_str())?;
+            let location = *location;
+            let fact = Fact::at(knowledge, slot, location);
+            if fact.is_some() || detail == Detail::Read {
+                items.push(Item::Known { location, fact })?;
             }
-            if let Some(differing) = Differing::of(*location, edges.as_slice()) {
-                let item = format!(in self.alloc; "{differing}")?;
-                line.item(Part::Differs, item.as_str())?;
+            if let Some(differing) = Differing::of(location, edges.as_slice()) {
+                items.push(Item::Differs(differing))?;
             }
         }
         Ok(())
     }
 
-    /// What is known of a location, as it is shown.
-    fn item_of(&self, location: Location, fact: Fact) -> io::Result<String> {
-        let item = match fact {
-            Fact::Register(None) => format!(in self.alloc; "{location} {fact}")?,
-            _ => format!(in self.alloc; "{location} = {fact}")?,
+    /// The slots from which paths join at a slot: none where fewer than two lead there.
+    pub fn sources(&self, slot: u32) -> Result<Vec<u32>, AllocError> {
+        let mut sources = Vec::new(self.alloc);
+        let Some(known) = &self.all_known.known else {
+            return Ok(sources);
         };
-        Ok(item)
+        for edge in &known.edges.fulfilling(self.alloc, &known.knowledge, slot)? {
+            sources.push(edge.from)?;
+        }
+        Ok(sources)
     }
 
     /// What an instruction reads: registers, and then bytes of the stack. R10 is what it always is.
-    fn locations_read(
-        &self,
-        slot: u32,
-        insn: &Insn,
-        knowledge: &Knowledge,
-    ) -> Result<Vec<Location>, AllocError> {
+    pub fn reads(&self, slot: u32, insn: &Insn) -> Result<Vec<Location>, AllocError> {
         let mut locations = Vec::new(self.alloc);
         for register in registers_read(insn) {
             let location = Location::Register(register);
@@ -263,6 +248,20 @@ impl<'a> Listing<'a> {
                 locations.push(location)?;
             }
         }
+        if let Some(known) = &self.all_known.known {
+            self.push_stack_read(&mut locations, slot, insn, &known.knowledge)?;
+        }
+        Ok(locations)
+    }
+
+    /// Adds the bytes of the stack that an instruction reads.
+    fn push_stack_read(
+        &self,
+        locations: &mut Vec<Location>,
+        slot: u32,
+        insn: &Insn,
+        knowledge: &Knowledge,
+    ) -> Result<(), AllocError> {
         let value_size = self.named_value_size(slot, knowledge);
         for register in registers_read(insn) {
             if register > FRAME_POINTER {
@@ -274,36 +273,42 @@ impl<'a> Listing<'a> {
             let Some(seen) = Seen::by(insn, register, kind, value_size) else {
                 continue;
             };
-            for eight in seen.first..seen.end {
-                locations.push(Location::Stack(eight))?;
-            }
+            push_eights(locations, seen)?;
         }
-        Ok(locations)
+        Ok(())
     }
 
     /// How many bytes the values of the map have that R1 names.
     fn named_value_size(&self, slot: u32, knowledge: &Knowledge) -> Option<u32> {
         match knowledge.kind(slot, 1)? {
-            Kind::MapName(map) => Some(self.verdict.shapes.get(map as usize)?.as_ref()?.value_size),
+            Kind::MapName(map) => Some(self.checked.shapes.get(map as usize)?.as_ref()?.value_size),
             _ => None,
         }
     }
+}
 
-    /// Writes how many frames an instruction may take, of how many that the rest may need from there on.
-    fn write_frames<W: Write>(
-        &self,
-        line: &mut Line<'_, W>,
-        slot: u32,
-        verified: &Verified,
-    ) -> io::Result<()> {
-        let reserve = verified.reserve(slot);
-        let cost = reserve.saturating_sub(verified.reserve(slot.saturating_add(1)));
-        if cost == 0 && (reserve == 0 || self.detail == Detail::Read) {
-            return Ok(());
-        }
-        let item = format!(in self.alloc; "frames {cost} of {reserve}")?;
-        line.item(Part::Known, item.as_str())
+/// Adds slots of the stack.
+fn push_eights(locations: &mut Vec<Location>, seen: Seen) -> Result<(), AllocError> {
+    for eight in seen.first..seen.end {
+        locations.push(Location::Stack(eight))?;
     }
+    Ok(())
+}
+
+/// Adds how many frames an instruction may take, of how many that the rest may need from there on.
+fn push_frames(
+    items: &mut Vec<Item>,
+    slot: u32,
+    verified: &Verified,
+    detail: Detail,
+) -> Result<(), AllocError> {
+    let reserve = verified.reserve(slot);
+    let cost = reserve.saturating_sub(verified.reserve(slot.saturating_add(1)));
+    if cost == 0 && (reserve == 0 || detail == Detail::Read) {
+        return Ok(());
+    }
+    items.push(Item::Frames { cost, reserve })?;
+    Ok(())
 }
 
 /// What is known of the registers at a slot.

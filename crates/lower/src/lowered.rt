@@ -1,7 +1,7 @@
 //! The answer to a request.
 
 use crate::stats::write_stats;
-use command_line::{ToLower, lowered_of};
+use command_line::{Asked, ToLower, lowered_of};
 use engines::check::{check, check_request_of};
 use engines::written;
 use hex::encode;
@@ -27,7 +27,13 @@ where
     E: Write,
 {
     let alloc = rt.alloc();
-    let asked = lowered_of(alloc, words).map_err(words_fault)?;
+    let asked = match lowered_of(alloc, words).map_err(words_fault)? {
+        Asked::Program(asked) => asked,
+        Asked::Text(text) => {
+            written(writeln!(output, "{}", text.as_str().trim_end()))?;
+            return Ok(0);
+        }
+    };
     let hex = hex_of(rt, asked.hex)?;
     let shapes = asked.shapes.as_slice();
     let request = check_request_of(alloc, hex.as_str(), shapes, asked.context)?;

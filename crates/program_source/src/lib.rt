@@ -3,6 +3,7 @@
 #![tactic(auto)]
 
 mod line;
+mod other;
 mod source;
 
 pub use line::{words_fault, words_of};

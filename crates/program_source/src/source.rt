@@ -1,43 +1,39 @@
 //! The program that a word HEX names.
 
+use crate::other::{MOST, Other};
 use host_file::FileFault;
 use std::alloc::{AllocError, Global};
-use std::fs;
 use std::io::{self, Read};
 use std::rt::Files;
+use std::{fmt, fs};
 use terminal_text::quoted;
 
-/// The most bytes of a file: hex text of the longest program, and spaces between its digits.
-const MOST: usize = 1 << 20;
-
 /// The hex text that a word is, or that is made of the file that it names after an `@`. A file of hex digits and white
-/// space alone is hex text; of every other one its bytes are the program.
+/// space alone is hex text; of every other one its bytes are the program. A fault says what is wrong with other text, and with
+/// an object file: no program that may be accepted has their bytes.
 pub fn hex_of<R: AllocGlobal + Files>(rt: &R, word: &str) -> Result<String, FileFault> {
     let alloc = rt.alloc();
     let Some(path) = word.strip_prefix('@') else {
         return Ok(String::from_str(alloc, word)?);
     };
     match bytes_at(rt, path) {
-        Ok(bytes) if bytes.len() > MOST => Err(FileFault::Usage(unreadable(
-            alloc,
-            path,
-            "it has more than 1048576 bytes",
-        )?)),
-        Ok(bytes) => Ok(hex_in(alloc, bytes.as_slice())?),
-        Err(error) if error.kind() == io::ErrorKind::OutOfMemory => {
-            Err(FileFault::OutOfMemory(AllocError))
-        }
-        Err(error) => {
-            let why = error.to_string(alloc)?;
-            Err(FileFault::Usage(unreadable(alloc, path, why.as_str())?))
-        }
+        Ok(bytes) => match Other::of(bytes.as_slice()) {
+            Some(other) => unreadable(alloc, path, other),
+            None => Ok(hex_in(alloc, bytes.as_slice())?),
+        },
+        Err(error) => unreadable(alloc, path, error),
     }
 }
 
-/// What is said of a file that can't be read.
-fn unreadable(alloc: Global, path: &str, why: &str) -> Result<String, AllocError> {
+/// The fault of a file that can't be read, with the path and why.
+fn unreadable(
+    alloc: Global,
+    path: &str,
+    why: impl fmt::Display + Drop,
+) -> Result<String, FileFault> {
     let path = quoted(alloc, path)?;
-    format!(in alloc; "cannot read {path}: {why}")
+    let said = format!(in alloc; "cannot read {path}: {why}")?;
+    Err(FileFault::Usage(said))
 }
 
 /// The first bytes of the file at a path, one more than it may have.
@@ -51,8 +47,7 @@ fn bytes_at<R: AllocGlobal + Files>(rt: &R, path: &str) -> io::Result<Vec<u8>> {
 
 /// The hex text of bytes that are one, or else that of the bytes themselves.
 fn hex_in(alloc: Global, bytes: &[u8]) -> Result<String, AllocError> {
-    let is_text = bytes.iter().all(|byte| byte.is_ascii_hexdigit() || byte.is_ascii_whitespace());
-    if !is_text {
+    if !bytes.iter().all(is_of_hex_text) {
         return hex::encode(alloc, bytes);
     }
     let mut digits = String::new(alloc);
@@ -62,4 +57,9 @@ fn hex_in(alloc: Global, bytes: &[u8]) -> Result<String, AllocError> {
         }
     }
     Ok(digits)
+}
+
+/// Whether a byte may stand in hex text.
+fn is_of_hex_text(byte: &u8) -> bool {
+    byte.is_ascii_hexdigit() || byte.is_ascii_whitespace()
 }

@@ -98,7 +98,15 @@ fn print_tenant<W: Write, E: Write>(
         let Some(answer) = replies.next() else {
             return Ok(());
         };
-        printed.print(writer, diagnostics, number, event, begun, &reply_of(answer))?;
+        printed.print(
+            writer,
+            diagnostics,
+            number,
+            event,
+            begun,
+            &reply_of(answer),
+            commands,
+        )?;
         begun = begun.saturating_add(u64::from(answer.is_ok()));
     }
     Ok(())
@@ -150,7 +158,7 @@ fn print_lookups<W: Write, E: Write>(
             continue;
         };
         if let Some(reply) = looked_up(rt, alloc, plans, event) {
-            printed.print(writer, diagnostics, number, event, 0, &reply)?;
+            printed.print(writer, diagnostics, number, event, 0, &reply, commands)?;
         }
     }
     Ok(())

@@ -8,7 +8,7 @@ ghost use Rattle.engines.specs.Lines.{reply_lines};
 ghost use Rattle.engines.specs.Replay.{is_refusal};
 
 use crate::opening::Stop;
-use engines::{explain_at, write_reply};
+use engines::{Known, explain_at, write_reply};
 use host_core::{Event, Reply};
 use host_file::{Command, FileFault};
 use host_types::Shape;
@@ -24,7 +24,7 @@ pub(crate) struct Report {
 
 impl Report {
     /// Writes the line of what the file's event of this number was answered, and what a refusal means. A run
-    /// has a number among those that its tenant began.
+    /// has a number among those that its tenant began. The file's commands say what its program was loaded with.
     pub(crate) fn print<W: Write, E: Write>(
         &mut self,
         writer: &mut W,
@@ -33,6 +33,7 @@ impl Report {
         event: &Event,
         run: u64,
         reply: &Reply,
+        commands: &[Command],
     ) -> Result<(), FileFault>
         ensures refused { OnOk result (self.new.has_refused ≡ (self.old.has_refused || is_refusal reply.now)) }
         ensures written { OnOk result (Appends (W.contents writer.old) (W.contents writer.new) (reply_lines event.now run reply.now)) }
@@ -40,7 +41,11 @@ impl Report {
     {
         write_reply(writer, event, run, reply)?;
         if let Reply::Refused(fault) = reply {
-            explain_at(self.alloc, diagnostics, number, event, *fault, &[]);
+            let known = Known {
+                shapes: &[],
+                context_size: context_size_for(event, commands),
+            };
+            explain_at(self.alloc, diagnostics, number, event, *fault, &known);
             self.has_refused = true;
         }
         Ok(())
@@ -68,11 +73,26 @@ pub(crate) fn print_stop<W: Write, E: Write>(
             stop.number,
             stop.event,
             stop.fault,
-            &shapes,
+            &with_shapes(shapes.as_slice()),
         ),
-        Err(AllocError) => explain_at(alloc, diagnostics, stop.number, stop.event, stop.fault, &[]),
+        Err(AllocError) => explain_at(
+            alloc,
+            diagnostics,
+            stop.number,
+            stop.event,
+            stop.fault,
+            &with_shapes(&[]),
+        ),
     }
     Ok(1)
+}
+
+/// What is known beside an event where a tenant's maps have these shapes.
+fn with_shapes(shapes: &[Option<Shape>]) -> Known<'_> {
+    Known {
+        shapes,
+        context_size: None,
+    }
 }
 
 /// The shapes of the maps by number that an event's tenant has after these commands, of which none was refused.
@@ -101,4 +121,36 @@ fn shapes_for(
         }
     }
     Ok(shapes)
+}
+
+/// The size of contexts that the program was loaded with of which an event begins a run. No load of these commands was
+/// refused, so that each has the next number of its tenant's programs.
+fn context_size_for(event: &Event, commands: &[Command]) -> Option<u32> {
+    let Event::Begin {
+        tenant,
+        program,
+        ..
+    } = event
+    else {
+        return None;
+    };
+    let mut number: u32 = 0;
+    for command in commands {
+        match command {
+            Command::Apply(
+                Event::Load {
+                    tenant: loaded,
+                    context_size,
+                    ..
+                },
+            ) if loaded == tenant => {
+                if number == *program {
+                    return Some(*context_size);
+                }
+                number = number.saturating_add(1);
+            }
+            _ => {}
+        }
+    }
+    None
 }

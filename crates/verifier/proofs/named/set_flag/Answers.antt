@@ -9,7 +9,7 @@ returns-in_default c = λ m less. let none = c.in_default.is in flag_kept c.args
 pub returns-then-map-lt-MAX_MAPS : goal.returns-then-map-lt-MAX_MAPS
 returns-then-map-lt-MAX_MAPS c = λ m less.
     let some = c.in-Some.is in
-    let long = c.learned-flags in
+    let long = c.told-flags in
     rw some (flag_set c.args.flags.now c.in-Some.map m (omega (arith, long, c.if-map-lt-MAX_MAPS.true)))
 
 pub returns-else-map-lt-MAX_MAPS : goal.returns-else-map-lt-MAX_MAPS

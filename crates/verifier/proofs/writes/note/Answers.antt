@@ -9,7 +9,7 @@ returns-in_default c = λ m less. let none = c.in_default.is in last_kept c.args
 pub returns-then-map-lt-MAX_MAPS : goal.returns-then-map-lt-MAX_MAPS
 returns-then-map-lt-MAX_MAPS c = λ m less.
     let some = c.in-Some.is in
-    let long = c.learned-lasts in
+    let long = c.told-lasts in
     rw some (last_set c.args.lasts.now c.in-Some.map c.args.end m (omega (arith, long, c.if-map-lt-MAX_MAPS.true)))
 
 pub returns-else-map-lt-MAX_MAPS : goal.returns-else-map-lt-MAX_MAPS

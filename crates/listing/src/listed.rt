@@ -6,7 +6,7 @@ ghost use Rattle.verifier.specs.Verified.{AreShapes};
 use crate::edges::Edges;
 use crate::knowledge::Knowledge;
 use bpf_decode::decode;
-use findings::{CLEAR, Cut, Verdict, is_within_limits};
+use findings::{CLEAR, CheckedText, Cut, is_within_limits};
 use host_types::limits::MAX_MAPS;
 use host_types::{Refused, Shape};
 use std::alloc::{AllocError, Global};
@@ -30,18 +30,32 @@ pub struct Known {
     pub edges: Edges,
 }
 
-impl Listed {
-    /// What is reported of a text that was verified: nothing where no text can be verified so.
-    pub fn of(alloc: Global, verdict: &Verdict<'_>) -> Option<Listed> {
-        if verdict.shapes.len() > MAX_MAPS
-            || !verdict.shapes.iter().all(|shape| is_within_limits(shape))
-            || !is_context_size(verdict.context_size)
+impl Known {
+    /// What is known of a text that was verified: nothing where no text can be verified so, where it isn't well formed, and where
+    /// there is no memory.
+    pub fn of(alloc: Global, checked: &CheckedText<'_>) -> Option<Known> {
+        if checked.shapes.len() > MAX_MAPS
+            || !checked.shapes.iter().all(|shape| is_within_limits(shape))
+            || !is_context_size(checked.context_size)
         {
             return None;
         }
-        let known = known_in(alloc, verdict.text, verdict.shapes, verdict.context_size);
+        known_in(alloc, checked.text, checked.shapes, checked.context_size)
+    }
+}
+
+impl Listed {
+    /// What is reported of a text that was verified: nothing where no text can be verified so.
+    pub fn of(alloc: Global, checked: &CheckedText<'_>) -> Option<Listed> {
+        if checked.shapes.len() > MAX_MAPS
+            || !checked.shapes.iter().all(|shape| is_within_limits(shape))
+            || !is_context_size(checked.context_size)
+        {
+            return None;
+        }
+        let known = known_in(alloc, checked.text, checked.shapes, checked.context_size);
         Some(
-            match verified_of(alloc, verdict.text, verdict.shapes, verdict.context_size) {
+            match verified_of(alloc, checked.text, checked.shapes, checked.context_size) {
                 Ok(verified) => Listed {
                     refused: None,
                     known,
@@ -50,7 +64,7 @@ impl Listed {
                 Err(refused) => Listed {
                     refused: Some(refused),
                     known,
-                    verified: verified_before(alloc, verdict, refused),
+                    verified: verified_before(alloc, checked, refused),
                 },
             },
         )
@@ -80,10 +94,10 @@ fn verified_of(
 }
 
 /// A program that begins with the slots before a refused one.
-fn verified_before(alloc: Global, verdict: &Verdict<'_>, refused: Refused) -> Option<Verified> {
+fn verified_before(alloc: Global, checked: &CheckedText<'_>, refused: Refused) -> Option<Verified> {
     let cut = Cut {
         alloc,
-        verdict: *verdict,
+        checked: *checked,
         slot: refused.slot as usize,
     };
     cut.with(CLEAR)

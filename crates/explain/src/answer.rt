@@ -1,0 +1,133 @@
+//! The answer to a request.
+
+use crate::folds::folded;
+use crate::view::{View, write_view};
+use command_line::{Asked, ToExplain, explained_of};
+use engines::check::{CheckRequest, check, check_request_of};
+use engines::written;
+use findings::CheckedText;
+use hex::encode;
+use host_file::FileFault;
+use listing::{Beside, Paint};
+use lowered_text::{Copies, lowered, write_stop};
+use lowering::Lowered;
+use program_source::{hex_of, words_fault};
+use std::alloc::Global;
+use std::io::Write;
+use std::rt::Files;
+
+/// Does what words ask for: explains the program that they name, or writes the help or the version.
+pub fn answer<R: AllocGlobal + Files, W: Write>(
+    rt: &R,
+    words: &[String],
+    paint: Paint,
+    output: &mut W,
+) -> Result<u8, FileFault> {
+    let alloc = rt.alloc();
+    match explained_of(alloc, words).map_err(words_fault)? {
+        Asked::Program(asked) => {
+            let hex = hex_of(rt, asked.hex)?;
+            explain(alloc, &asked, hex.as_str(), paint, output)
+        }
+        Asked::Text(text) => {
+            written(writeln!(output, "{}", text.as_str().trim_end()))?;
+            written(output.flush())?;
+            Ok(0)
+        }
+    }
+}
+
+/// Explains the program of a hex text, or what the lowering makes of it if that is asked for. Where it isn't lowered, what
+/// stopped that stands last. Answers the status of `check`.
+fn explain<W: Write>(
+    alloc: Global,
+    asked: &ToExplain<'_>,
+    hex: &str,
+    paint: Paint,
+    output: &mut W,
+) -> Result<u8, FileFault> {
+    let request = check_request_of(alloc, hex, asked.shapes.as_slice(), asked.context)?;
+    let outcome = if asked.lower {
+        lowered(alloc, &request)
+    } else {
+        None
+    };
+    let mut note = Vec::new(alloc);
+    match outcome {
+        Some(Ok(lowered)) => return explain_lowered(
+            alloc, asked, &request, &lowered, paint, output,
+        ),
+        Some(Err(stopped)) => {
+            written(write_stop(request.text.as_slice(), &stopped, &mut note))?;
+        }
+        None => {}
+    }
+    let checked = CheckedText {
+        text: request.text.as_slice(),
+        shapes: request.shapes.as_slice(),
+        context_size: request.context_size,
+    };
+    let view = View {
+        asked,
+        paint,
+        checked,
+        beside: None,
+        note: note.as_slice(),
+    };
+    show(alloc, hex, &view, output)
+}
+
+/// Explains a lowered text in the same way, with the slots of the original beside its own. Of the copies of a loop the
+/// first, the second and the last are shown.
+fn explain_lowered<W: Write>(
+    alloc: Global,
+    asked: &ToExplain<'_>,
+    request: &CheckRequest,
+    lowered: &Lowered,
+    paint: Paint,
+    output: &mut W,
+) -> Result<u8, FileFault> {
+    let hex = encode(alloc, lowered.text.as_slice())?;
+    let copies = Copies {
+        text: request.text.as_slice(),
+        lowered,
+    };
+    let folded = folded(alloc, &copies)?;
+    let checked = CheckedText {
+        text: lowered.text.as_slice(),
+        shapes: request.shapes.as_slice(),
+        context_size: request.context_size,
+    };
+    let view = View {
+        asked,
+        paint,
+        checked,
+        beside: Some(Beside {
+            origins: lowered.origins.as_slice(),
+            folded: folded.as_slice(),
+        }),
+        note: &[],
+    };
+    show(alloc, hex.as_str(), &view, output)
+}
+
+/// Verifies the program of a hex text, and shows it. Answers the status of `check`.
+fn show<W: Write>(
+    alloc: Global,
+    hex: &str,
+    view: &View<'_>,
+    output: &mut W,
+) -> Result<u8, FileFault> {
+    let mut verdict = Vec::new(alloc);
+    let mut meant = Vec::new(alloc);
+    let status = check(
+        alloc,
+        hex,
+        view.asked.shapes.as_slice(),
+        view.asked.context,
+        &mut verdict,
+        &mut meant,
+    )?;
+    written(write_view(alloc, output, view, verdict.as_slice(), meant.as_slice()))?;
+    Ok(status)
+}

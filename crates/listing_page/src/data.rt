@@ -1,0 +1,79 @@
+//! The data of a page: one JSON object.
+
+use crate::escape::escaped;
+use crate::page::Page;
+use crate::row::Rows;
+use listing::Listing;
+use std::alloc::Global;
+use std::io::Write;
+use std::{fmt, io};
+
+/// Writes the data of a page.
+pub fn write_data<W: Write>(output: &mut W, page: &Page<'_>) -> io::Result<()> {
+    let alloc = page.alloc;
+    write!(output, "{{\"program\":")?;
+    write_string(alloc, output, page.program)?;
+    write!(output, ",\"verdict\":")?;
+    write_string(alloc, output, page.verdict)?;
+    write!(output, ",\"said\":")?;
+    write_string(alloc, output, page.said)?;
+    write!(output, ",\"note\":")?;
+    write_string(alloc, output, page.note)?;
+    write!(output, ",\"context\":")?;
+    write_string(alloc, output, page.context)?;
+    write!(output, ",\"maps\":[")?;
+    for (map, shape) in page.shapes.iter().enumerate() {
+        write_comma(output, map)?;
+        write_string(alloc, output, shape)?;
+    }
+    write!(
+        output,
+        "],\"accepted\":{},\"lowered\":{},\"all\":{}",
+        page.is_accepted, page.is_lowered, page.shows_all
+    )?;
+    match page.listing {
+        Some(listing) => write_rows(output, listing)?,
+        None => write!(output, ",\"slots\":0,\"rows\":[]")?,
+    }
+    write!(output, "}}")
+}
+
+/// Writes the rows of a listing: those up to a refused slot, and then the slots after it that break a rule too.
+fn write_rows<W: Write>(output: &mut W, listing: &Listing<'_>) -> io::Result<()> {
+    write!(output, ",\"slots\":{},\"rows\":[", listing.slots())?;
+    let mut rows = Rows::new(listing)?;
+    for row in &listing.rows()? {
+        rows.write_row(output, *row)?;
+    }
+    for refused in &listing.further()? {
+        rows.write_further(output, *refused)?;
+    }
+    write!(output, "]")
+}
+
+/// Writes what stands between an element and the one before it, if there is one.
+pub fn write_comma<W: Write>(output: &mut W, before: usize) -> io::Result<()> {
+    if before > 0 {
+        write!(output, ",")
+    } else {
+        Ok(())
+    }
+}
+
+/// Writes a JSON string.
+pub fn write_string<W: Write>(alloc: Global, output: &mut W, text: &str) -> io::Result<()> {
+    let text = escaped(alloc, text)?;
+    output.write_all(b"\"")?;
+    output.write_all(text.as_slice())?;
+    output.write_all(b"\"")
+}
+
+/// Writes what a value prints as a JSON string.
+pub fn write_shown<W: Write>(
+    alloc: Global,
+    output: &mut W,
+    value: &impl fmt::Display,
+) -> io::Result<()> {
+    let text = format!(in alloc; "{value}")?;
+    write_string(alloc, output, text.as_str())
+}

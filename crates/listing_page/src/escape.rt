@@ -1,0 +1,89 @@
+//! Text from outside, written so that a browser reads none of it as HTML.
+
+ghost use Rattle.std.specs.Prelude.{◌<◌, IfOk, IfSome, OnOk, All, IsTrue};
+ghost use Rattle.listing_page.specs.Inert.{IsInert};
+
+use std::alloc::{AllocError, Global};
+
+/// A text as it stands between the quotes of a JSON string: characters of ASCII that print, but for `"`, `&`, `<`, `>` and
+/// `\`, as they are, and of every other one the `\uXXXX` of its units of UTF-16.
+pub fn escaped(alloc: Global, text: &str) -> Result<Vec<u8>, AllocError>
+    ensures { IfOk result (λ escaped. All IsInert escaped.items) }
+{
+    let mut escaped = Vec::new(alloc);
+    for c in text.chars() {
+        push_escaped(&mut escaped, c as u32)?;
+    }
+    Ok(escaped)
+}
+
+/// Adds the character of a code.
+fn push_escaped(escaped: &mut Vec<u8>, code: u32) -> Result<(), AllocError>
+    ensures { OnOk result (All IsInert escaped.old.items → All IsInert escaped.new.items) }
+{
+    if let Some(byte) = inert(code) {
+        escaped.push(byte)?;
+        return Ok(());
+    }
+    if code < 0x10000 {
+        return push_unit(escaped, code);
+    }
+    let rest = code.saturating_sub(0x10000);
+    push_unit(escaped, 0xd800 + rest / 0x400 % 0x400)?;
+    push_unit(escaped, 0xdc00 + rest % 0x400)
+}
+
+/// The byte that stands for a character, if one does.
+fn inert(code: u32) -> Option<u8>
+    ensures { IfSome result IsInert }
+{
+    match u8::try_from(code) {
+        Ok(byte) if is_inert(byte) => Some(byte),
+        _ => None,
+    }
+}
+
+/// Whether a byte stands for itself.
+fn is_inert(byte: u8) -> bool
+    ensures { IsTrue result → IsInert byte }
+{
+    32 <= byte
+        && byte < 127
+        && byte != b'"'
+        && byte != b'&'
+        && byte != b'<'
+        && byte != b'>'
+        && byte != b'\\'
+}
+
+/// Adds the escape of a unit of UTF-16: a backslash, `u` and four digits.
+fn push_unit(escaped: &mut Vec<u8>, unit: u32) -> Result<(), AllocError>
+    ensures { OnOk result (All IsInert escaped.old.items → All IsInert escaped.new.items) }
+{
+    escaped.push(b'\\')?;
+    escaped.push(b'u')?;
+    push_digit(escaped, unit / 0x1000)?;
+    push_digit(escaped, unit / 0x100)?;
+    push_digit(escaped, unit / 0x10)?;
+    push_digit(escaped, unit)
+}
+
+/// Adds the last hex digit of a number.
+fn push_digit(escaped: &mut Vec<u8>, number: u32) -> Result<(), AllocError>
+    ensures { OnOk result (All IsInert escaped.old.items → All IsInert escaped.new.items) }
+{
+    escaped.push(digit((number % 16) as u8))?;
+    Ok(())
+}
+
+/// A hex digit.
+fn digit(number: u8) -> u8
+    requires { number < 16 }
+    ensures { IsInert result }
+{
+    if number < 10 {
+        b'0' + number
+    } else {
+        b'a' + (number - 10)
+    }
+}
