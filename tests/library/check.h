@@ -18,7 +18,7 @@ void check_at(const char *file, int line, const char *what, unsigned long long f
 /* The bytes of a text in hex, spaces left out: how many. */
 size_t bytes_of(const char *hex, uint8_t *bytes);
 
-/* Opens a handle with the options of a host that is told none. */
+/* Opens a handle with the options of a host that is given none. */
 void open_host(struct bpf_host *host, uint32_t frames, uint32_t tenants);
 
 /* Loads a text in hex: what the call returns. `last_refused` has what it says beside its number. */

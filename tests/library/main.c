@@ -83,11 +83,11 @@ void check_value(struct bpf_host *host, uint32_t tenant, uint32_t map, uint32_t 
 struct bpf_host_counters after_visits(struct bpf_host *host, uint32_t visits)
 {
     struct bpf_host_counters after;
-    struct bpf_host_counters told;
+    struct bpf_host_counters again;
     memset(&after, 0xee, sizeof after);
     CHECK(bpf_host_visit(host, visits, &after), 0);
-    CHECK(bpf_host_counters(host, &told), 0);
-    CHECK(memcmp(&after, &told, sizeof after), 0);
+    CHECK(bpf_host_counters(host, &again), 0);
+    CHECK(memcmp(&after, &again, sizeof after), 0);
     return after;
 }
 

@@ -1,4 +1,4 @@
-/* Functions without a loop, whose branches share returns and tails that clang puts behind the first of them: later
+/* Functions without a loop, whose branches share returns and tails that clang puts after the first of them: later
    branches jump back there. The context has 64 bytes. */
 typedef unsigned char u8;
 typedef unsigned int u32;

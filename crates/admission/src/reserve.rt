@@ -9,7 +9,7 @@ use page_table::Memory;
 use verifier::Verified;
 
 /// How many frames the rest of a run may take from a slot on, whichever pages share frames and however
-/// often it writes to one. It is reported in constant time.
+/// often it writes to one. It is answered in constant time.
 #[inline]
 pub fn breaks(program: &Verified, slot: u32) -> u32
     ensures { result ≡ reserve_from program.now slot }

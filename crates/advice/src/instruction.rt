@@ -284,7 +284,7 @@ fn on_reach(insn: &Insn) -> Option<Advice> {
     Some(Advice { wrong, mend })
 }
 
-/// An index that may be no multiple of what it has to be.
+/// An address that may be no multiple of what it has to be.
 fn on_alignment(insn: &Insn) -> Option<Advice> {
     let (wrong, mend) = match Operation::of(insn.opcode)? {
         Operation::Load { .. } | Operation::Store { .. } => (

@@ -5,7 +5,7 @@ use bpf_decode::{Insn, Operation};
 /// The most slots of a text.
 const SLOTS: usize = 4096;
 
-/// The slots that are reached, and those of them from which ways are still to be followed.
+/// The slots that are reached, and those of them from which edges are still to be followed.
 #[derive(Drop)]
 struct Reached {
     flags: [bool; SLOTS],
@@ -67,7 +67,7 @@ impl Reached {
         }
     }
 
-    /// A slot whose ways are to be followed.
+    /// A slot whose edges are to be followed.
     fn next(&mut self) -> Option<usize> {
         self.count = self.count.checked_sub(1)?;
         Some(*self.pending.get(self.count)?)

@@ -93,7 +93,7 @@ const LOOKUP: [u64; 4] = [
     0x85000000_01000000,
 ];
 
-/// Lookup of key 0, and whether there is none; both ways lead on.
+/// Lookup of key 0, and whether there is none; both branches lead on.
 const CHECKED_LOOKUP: [u64; 5] = [
     0x18110000_00000000,
     0,

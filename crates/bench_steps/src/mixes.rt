@@ -53,7 +53,7 @@ const STACK: [[u8; 8]; 8] = [
 /// A product that waits for the one before it.
 const PRODUCT: [u8; 8] = [0x27, 0x06, 0, 0, 0x03, 0, 0, 0];
 
-/// A jump over the next instruction, so that two ways meet at every second slot.
+/// A jump over the next instruction, so that two branches join at every second slot.
 const JUMPS: [[u8; 8]; 2] = [
     [0x15, 0x06, 0x01, 0, 0x05, 0, 0, 0],
     [0x07, 0x06, 0, 0, 0x01, 0, 0, 0],

@@ -27,7 +27,7 @@ fn has_length(text: &[u8]) -> bool
     8 <= text.len() && text.len() <= MAX_TEXT && text.len() % 8 == 0
 }
 
-/// The first instruction that meets no row of the table.
+/// The first instruction that fulfils no row of the table.
 fn first_bad_insn(text: &[u8]) -> Option<Refused>
     requires { HasLength text.now }
     ensures { MatchOption result (IsWellFormed text.now) (λ refused. FailsFirst text.now refused.number refused.slot) }

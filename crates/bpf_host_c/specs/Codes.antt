@@ -34,7 +34,7 @@ abbrev pub run_written : Answer → BpfHostRun → BpfHostRun
 run_written (Replied (Ended number steps)) old = record { ret = number; steps = steps }
 run_written answer old = old
 
--- the counters that were reported
+-- the counters that were answered
 abbrev pub counters_written : Answer → BpfHostCounters → BpfHostCounters
 counters_written (Replied (AreCounters counters)) old = record {
   full_scans = counters.full_scans;

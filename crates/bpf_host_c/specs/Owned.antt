@@ -1,4 +1,4 @@
--- What a pointer owns after which a host lies.
+-- What a pointer that leads to a host owns.
 use Rattle.std.specs.Prelude.{Option, Some, None}
 use base.Fml.{Fml, ftrue}
 use base.Stored.{Coded}

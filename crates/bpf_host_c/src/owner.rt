@@ -1,4 +1,4 @@
-//! A host of a pointer that C keeps.
+//! A host to which a pointer leads that C keeps.
 ghost use Rattle.std.specs.Prelude.{◌≡◌, IsSome, Option, Some, None};
 ghost use Rattle.std.specs.Coded.{coded_option};
 ghost use Rattle.host_core.specs.HostView.{HostView};

@@ -9,18 +9,18 @@ use tenant_workers::{Gate, Passed};
 /// How many visits are made between two looks at the clock.
 const BETWEEN: u64 = 4096;
 
-/// Returns on standard error, where that is a terminal, how far a long work is: in one line, which is written over.
+/// Prints on standard error, where that is a terminal, how far a long work is: in one line, which is written over.
 #[derive(Drop)]
 pub struct Progress<'a, R, E> {
     rt: &'a R,
     errors: E,
-    /// When something is to be reported next. Nothing is reported where there is no terminal, or no clock.
+    /// When something is to be printed next. Nothing is printed where there is no terminal, or no clock.
     next: Option<Instant>,
     is_shown: bool,
 }
 
 impl<'a, R: Clock, E: Write> Progress<'a, R, E> {
-    /// Nothing is reported in the first two seconds.
+    /// Nothing is printed in the first two seconds.
     pub fn new(rt: &'a R, errors: E, is_terminal: bool) -> Self {
         let next = if is_terminal { after(rt, 2000) } else { None };
         Progress {
@@ -81,7 +81,7 @@ impl fmt::Display for Visits {
 impl<'a, R: Clock, E: Write> Watch for Progress<'a, R, E> {
     fn see(&mut self, event: usize, made: u32, count: u32) {
         if u64::from(made) % BETWEEN == 0 {
-            // What can't be reported is lost.
+            // What can't be printed is lost.
             let _ = self.show(&Visits { event, made, count });
         }
     }
@@ -91,7 +91,7 @@ impl<'a, R: Clock, E: Write> Watch for Progress<'a, R, E> {
     }
 }
 
-/// Returns how far the threads of plans are.
+/// Prints how far the threads of plans are.
 #[derive(Drop)]
 pub struct Plans<'a, R, E> {
     progress: Mutex<Progress<'a, R, E>>,

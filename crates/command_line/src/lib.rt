@@ -49,7 +49,7 @@ const VERSION: &str = "0.1.0";
 /// Why words ask for nothing.
 #[derive(Debug, Drop)]
 pub enum WrongWords {
-    /// They make no request. What is reported repeats at most 40 characters of a word.
+    /// They make no request. What is printed repeats at most 40 characters of a word.
     Usage(String),
     OutOfMemory(AllocError),
 }
@@ -79,8 +79,8 @@ fn path_of<'a>(matches: &ArgMatches<'a>, name: &str) -> Option<&'a str> {
     matches.subcommand_matches(name)?.get_str("FILE")
 }
 
-/// Words as they are reported: cut as words from outside are. The first of them is the program's own path, of which just
-/// the name is reported.
+/// Words as they are printed: cut as words from outside are. The first of them is the program's own path, of which just
+/// the name is printed.
 fn answered_of(alloc: Global, name: &str, words: &[String]) -> Result<Vec<String>, AllocError> {
     let mut answered = Vec::new(alloc);
     answered.push(String::from_str(alloc, name)?)?;
@@ -90,7 +90,7 @@ fn answered_of(alloc: Global, name: &str, words: &[String]) -> Result<Vec<String
     Ok(answered)
 }
 
-/// What a command says of words that make no request, as they are reported: these make none either.
+/// What a command says of words that make no request, as they are printed: these make none either.
 fn said_of<'a>(
     alloc: Global,
     command: Result<Command<'a>, AllocError>,

@@ -58,7 +58,7 @@ abbrev pub acceptance_text : ℕ → ℕ → ℕ → List ℕ
 acceptance_text slots instructions reserve =
     codes "accepted slots " ++ decimal slots ++ codes " instructions " ++ decimal instructions ++ codes " reserve " ++ decimal reserve
 
--- what is reported of an accepted program; its reserve is that of a whole run, where no page is pinned
+-- what is printed of an accepted program; its reserve is that of a whole run, where no page is pinned
 abbrev pub acceptance_of : Accepted → List ℕ
 acceptance_of v = acceptance_text (slots_of v.subject.text) (instructions_of v.subject.text) (whole_need v)
 

@@ -1,6 +1,6 @@
-/// Is reported how far a long event is, for people who wait. What it does with that changes no answer.
+/// Is given the progress of a long event, for people who wait. What it does with that changes no answer.
 pub trait Watch {
-    /// So many of an event's visits were made, of how many. The event is reported by its number in the file.
+    /// So many of an event's visits were made, of how many. The event is named by its number in the file.
     fn see(&mut self, event: usize, made: u32, count: u32);
 
     /// The event's visits are all made.

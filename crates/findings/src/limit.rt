@@ -32,7 +32,7 @@ pub enum Limit {
 }
 
 impl Limit {
-    /// The limit of a register of which a kind was known, where that may be why the site is refused.
+    /// The limit of a register of which a kind was known, where that may be why the instruction is refused.
     pub fn of(site: &Site<'_>, register: u8, kind: Kind) -> Option<Limit> {
         let number = site.refused.number;
         match kind {

@@ -17,7 +17,7 @@ fn cuts_agree(alloc: Global, text: &[u8], context: &[u8]) -> bool {
 }
 
 /// Whether a program is refused or goes as on the plain machine with one bit of any byte flipped: from byte
-/// to byte, from slot to slot and from row to row the next bit, so that eight rows flip all bits of an index.
+/// to byte, from slot to slot and from row to row the next bit, so that eight rows flip all bits of a byte.
 /// With one byte of each slot, from row to row the next one, the text is verified by the plain verifier too.
 fn flips_agree(alloc: Global, text: &[u8], context: &[u8], row: usize) -> Result<bool, AllocError> {
     let mut changed = text.to_vec(alloc)?;

@@ -66,7 +66,7 @@ fn begin_others(text: &mut Vec<u8>, map: i32, draws: &mut Draws) -> Result<(), A
     push(text, Slot::new(0xb7, 4, 0))
 }
 
-/// Bounds R6 by a mask, or by a comparison on one of two ways.
+/// Bounds R6 by a mask, or by a comparison on one of two branches.
 fn bound(text: &mut Vec<u8>, draws: &mut Draws) -> Result<(), AllocError> {
     match draws.below(3) {
         0 => push(text, Slot::new(0x57, 6, 0).with(immediate(draws))),

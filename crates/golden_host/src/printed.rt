@@ -1,4 +1,4 @@
-//! What is reported where a request is answered.
+//! What is printed where a request is answered.
 
 use crate::asked::Asked;
 use host_file::FileFault;

@@ -8,7 +8,7 @@ use isolation::both;
 use std::alloc::{AllocError, Global};
 use std::io;
 
-/// The tenant that is reported, and the other one, which stores a value or doesn't.
+/// The tenant that learns, and the other one, which stores a value or doesn't.
 const ANSWERED: u32 = 0;
 
 const STORES: u32 = 1;

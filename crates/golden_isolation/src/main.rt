@@ -1,7 +1,7 @@
 //! Pairs of lists that a fixed generator draws: each has the same events of one tenant, and what happens between them is
 //! drawn apart, for hosts of other frames and options. The file `stdout` says that the tenant is answered the same in both, and has
 //! the same values afterwards; that in one pair of a hundred, where one host lacks frames, this holds up to the first reply that says so; and
-//! which number says of another tenant's store.
+//! which number depends on another tenant's store.
 #![tactic(auto)]
 
 mod channel;

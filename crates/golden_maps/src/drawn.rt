@@ -34,7 +34,7 @@ pub(crate) struct Drawn {
 enum Change {
     Removed,
     Doubled,
-    /// Another one stands in its index.
+    /// Another one stands in place of it.
     Replaced,
 }
 
@@ -60,7 +60,7 @@ fn spliced(
     Ok(changed)
 }
 
-/// Puts a byte into a text, if it has the index.
+/// Puts a byte into a text, if the text is so long.
 fn put(text: &mut [u8], at: usize, byte: u8) {
     if let Some(there) = text.get_mut(at) {
         *there = byte;

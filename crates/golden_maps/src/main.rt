@@ -4,7 +4,7 @@
 //! merged pages and on pages of the zero frame. Where its maps are small, so is each text that its program
 //! becomes by a cut at a byte or by the flip of a bit: it is refused, or it goes as on the plain machine.
 //! Beside the rows, a byte is loaded at offsets of some maps' first values (`offsets.rt`). With a number as its
-//! one argument the program draws so many changed texts of each such row in their index, and verifies them by the
+//! one argument the program draws so many changed texts of each such row instead, and verifies them by the
 //! plain verifier too.
 #![tactic(auto)]
 

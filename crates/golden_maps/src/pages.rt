@@ -102,7 +102,7 @@ fn make_maps(memory: &mut Memory, tenant: u32, shapes: &[Option<Shape>]) -> bool
     all
 }
 
-/// Puts values into a tenant's maps. It answers whether all have an index there.
+/// Puts values into a tenant's maps. It answers whether all elements are there.
 fn put_values(memory: &mut Memory, tenant: u32, values: &[Value]) -> bool {
     let mut all = true;
     for value in values {
@@ -111,7 +111,7 @@ fn put_values(memory: &mut Memory, tenant: u32, values: &[Value]) -> bool {
     all
 }
 
-/// Puts a value into a tenant's map. It answers whether it has an index there.
+/// Puts a value into a tenant's map. It answers whether the element is there.
 fn put_value(memory: &mut Memory, tenant: u32, value: &Value) -> bool {
     let Some(shape) = memory.shape(tenant, value.map) else {
         return false;

@@ -121,7 +121,7 @@ fn ends_as(
         && has_maps(&memory, RESTING, maps[1])
 }
 
-/// Whether a program that is accepted goes on pages of every index as on the plain machine, and within
+/// Whether a program that is accepted goes on own, merged and zero pages as on the reference machine, and within
 /// its instructions. It answers how it goes, and the maps that it leaves.
 fn gone(
     alloc: Global,

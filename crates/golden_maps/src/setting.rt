@@ -69,7 +69,7 @@ impl Setting {
         self.context.as_slice()
     }
 
-    /// The maps on flat lists; `None` where a value has no index in them, or where memory ran out.
+    /// The maps on flat lists; `None` where a value's element isn't there, or where memory ran out.
     pub(crate) fn maps(&self, alloc: Global) -> Option<Maps> {
         let mut maps = Vec::new(alloc);
         for shape in self.shapes() {
@@ -101,7 +101,7 @@ fn map_of_zeros(alloc: Global, shape: Shape) -> Option<ArrayMap> {
     ArrayMap::of_zeros(alloc, shape).ok()
 }
 
-/// Puts a value into its map. It answers whether it has an index there.
+/// Puts a value into its map. It answers whether the element is there.
 fn put(maps: &mut [Option<ArrayMap>], value: &Value) -> bool {
     match maps.get_mut(value.map as usize) {
         Some(Some(map)) if map.shape().value_size as usize == value.bytes.len() => {
@@ -111,7 +111,7 @@ fn put(maps: &mut [Option<ArrayMap>], value: &Value) -> bool {
     }
 }
 
-/// Puts values into their maps. It answers whether each has an index there.
+/// Puts values into their maps. It answers whether each element is there.
 pub(crate) fn put_all(maps: &mut [Option<ArrayMap>], values: &[Value]) -> bool {
     let mut all = true;
     for value in values {

@@ -67,7 +67,7 @@ impl<'a> Guest for Watching<'a> {
     }
 }
 
-/// What is reported of the run, in whose middle the host looks at the counters, and of the calls after it.
+/// What is answered of the run, in whose middle the host looks at the counters, and of the calls after it.
 #[derive(Drop)]
 struct Row {
     merged: Counters,

@@ -34,7 +34,7 @@ pub(crate) struct Dropped {
     merged: Counters,
     gone: Gone,
     left: Counters,
-    /// A map of another shape in its index.
+    /// A map of another shape at its number.
     wider: Back,
     wider_gone: Gone,
     /// A map of the first one's shape.

@@ -24,7 +24,7 @@ use turn::Seat;
 /// How often a tenant looks for the other's flag.
 const TRIES: u32 = 50_000_000;
 
-/// The slot at which the tenants meet: the counter's load is done, and its store is next.
+/// The slot at which the tenants wait for each other: the counter's load is done, and its store is next.
 const FULFILLING: u32 = 10;
 
 /// A gate at which each of two tenants raises its flag and waits for the other's.
@@ -201,14 +201,14 @@ where
     Ok(shared.counters(rt, &mut host))
 }
 
-/// Whether two tenants that wait for each other within their runs meet, and count once each.
+/// Whether two tenants that wait for each other within their runs both go on, and count once each.
 fn fulfil_once<R: Threads + Wait + Sync>(rt: &R, alloc: Global) -> Result<bool, Fault> {
     let gate = Fulfilment::new();
     let counted = served(rt, alloc, &gate)?;
     Ok(counted && gate.alone.load(Ordering::SeqCst) == 0)
 }
 
-/// How often they meet, of twenty times. A `serve` that runs one tenant after the other, or that answers each run 41
+/// How often both go on, of twenty times. A `serve` that runs one tenant after the other, or that answers each run 41
 /// without a thread, is ruled out by it; one that holds the turn through a run by `turn_held_through_run`.
 fn meetings<R: AllocGlobal + Threads + Wait + Sync>(rt: &R) -> Result<u32, Fault> {
     let mut fulfilled = 0u32;

@@ -1,7 +1,7 @@
 //! What the verifier answers of texts, and what it knows at their slots. A row of the standard input is
 //! four texts between tabs: a name, a program in hex, the size of its context with the shapes of its maps
-//! after it, and bits `slot.register` or `map NUMBER`. Its line is the name and the answer: that the program is accepted,
-//! with what is known at the bits, or the number and the slot of its refusal; and whether both passes of
+//! after it, and registers at slots, `slot.register`, or `map NUMBER`. Its line is the name and the answer: that the program is accepted,
+//! with what is known of these, or the number and the slot of its refusal; and whether both passes of
 //! the plain verifier differ from that. Other rows ask a rule of kinds alone, with `insn` or `join` after the
 //! name (`rules.rt`), or with `first` of every offset in a map's first value (`first_values.rt`). The file `stdout` of this crate says what is wanted.
 #![tactic(auto)]
@@ -24,7 +24,7 @@ use std::io::Input;
 use verifier::{Verified, is_context_size, verify};
 use verifier_kinds::Kind;
 
-/// The kind at an offset, which is written `slot.register`.
+/// The kind of a register at a slot, which is written `slot.register`.
 fn kind_at(program: &Verified, begin: &str) -> Option<Kind> {
     let (slot, register) = begin.split_once('.')?;
     let register: u8 = register.parse().ok()?;
@@ -64,7 +64,7 @@ fn answer_of(alloc: Global, hex: &str, given: &str) -> Result<Answer, AllocError
     Ok(Answer { outcome, is_alike })
 }
 
-/// Prints what is known at an offset, or of `map NUMBER` whether the program names that map.
+/// Prints what is known of a register at a slot, or of `map NUMBER` whether the program names that map.
 fn print_begin(rt: &impl Print, program: &Verified, begin: &str) -> io::Result<()> {
     match begin.strip_prefix("map ") {
         Some(map) if program.names(map.parse().unwrap_or(u32::MAX)) => print!(rt; "named"),
@@ -73,7 +73,7 @@ fn print_begin(rt: &impl Print, program: &Verified, begin: &str) -> io::Result<(
     }
 }
 
-/// Prints what is answered to a row's text, and what is known at its bits.
+/// Prints what is answered to a row's text, and what is known of the registers that it names.
 fn print_answer(rt: &(impl AllocGlobal + Print), asked: &str) -> io::Result<()> {
     let mut fields = asked.split('\t');
     let hex = fields.next().unwrap_or("");

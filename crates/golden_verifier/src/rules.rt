@@ -10,7 +10,7 @@ use verifier_kinds::{Description, Kind, Range, arith, refine};
 enum Finding {
     /// What arithmetic leaves in dst, or the number of the rule that it breaks.
     Made(Result<Kind, u32>),
-    /// What a conditional jump says of dst on both ways.
+    /// What a conditional jump says of dst on both branches.
     Answered {
         taken: Option<Kind>,
         not_taken: Option<Kind>,

@@ -9,7 +9,7 @@ use std::fmt::Debug;
 use std::io;
 use std::io::Input;
 
-/// The path of the program, which is longer than what is reported of a word.
+/// The path of the program, which is longer than what is printed of a word.
 const PATH: &str = "/home/someone/projects/bpf_host/crates/bpf_host/out/bpf_host";
 
 /// The words of a line, after the program's path.

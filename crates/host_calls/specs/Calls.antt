@@ -16,7 +16,7 @@ use Rattle.page_table.specs.State.{MemoryState, part, free_number, have_of}
 abbrev pub IsThere : TenantPart → Type 0
 IsThere owned = length owned.maps ≡ 8
 
--- the value is one of the map's, and has an index in it
+-- the value has the size of the map's values, and the map has the element
 abbrev pub FitsValue : TenantPart → ℕ → ℕ → List ℕ → Type 0
 FitsValue owned m key value = IsSomeAnd (map_at owned.maps m) (λ flat. (key < flat.shape.entries) × (length value ≡ flat.shape.value_size))
 
@@ -102,7 +102,7 @@ RefusesLookup owned m key fault =
     (or_bad_tenant owned (lookup_refusal owned m key) ≡ Some fault)
     ⊎ ((fault ≡ OutOfMemory) × (or_bad_tenant owned (lookup_refusal owned m key) ≡ None))
 
--- where frames are missing, the frames that may be had are reported
+-- where frames are missing, the refusal names the frames that may be had
 abbrev pub NamesHave : MemoryState → Fault → Type 0
 NamesHave memory (NoFrames need have) = have ≡ have_of memory
 NamesHave memory _ = Unit {0}

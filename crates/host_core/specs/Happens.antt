@@ -51,8 +51,8 @@ Leaves x t tenant sharing answer reply x' = (reply ≡ answer) × (x' ≡ change
 abbrev pub Shares : System → Sharing → Reply → Reply → System → Type 0
 Shares x sharing answer reply x' = (reply ≡ answer) × (x' ≡ record x { sharing = sharing })
 
--- The event is refused where there is a refusal, and else it happens. A drop of a map is
--- `RefusedOr (drop_refusal tenant m) x reply x'` of what happens where the map is there and no program names it.
+-- The event is refused where there is a refusal, and else it happens. For example a DropMap of a tenant with an open run:
+-- `drop_refusal` is `Some Busy`, so the reply is `Refused Busy` and x' is x; where it is `None`, `DropHappens` says both.
 abbrev pub RefusedOr : Option Fault → System → Reply → System → Type 0 → Type 0
 RefusedOr (Some refusal) x reply x' Happening = Answers x (Refused refusal) reply x'
 RefusedOr None x reply x' Happening = Happening
@@ -69,8 +69,8 @@ OfTenant x t reply x' Happening = MatchOption (slice_get x.world t) (Answers x (
 abbrev pub MayLackMemory : System → Reply → System → Type 0 → Type 0
 MayLackMemory x reply x' Happening = Answers x (Refused fault.OutOfMemory) reply x' ⊎ Happening
 
--- The event is refused just where it needs more frames than may be had: with 3 to be had, a need of 4 is refused by
--- `NoFrames 4 3`, and a need of 3 isn't.
+-- The event is refused just where it needs more frames than may be had. For example an Unmerge that needs 5: where 4 may be had
+-- the reply is `Refused (NoFrames 5 4)` and x' is x; where 5 or more may be had, all pages are unmerged.
 abbrev pub MayLackFrames : System → ℕ → Reply → System → Type 0 → Type 0
 MayLackFrames x need reply x' Happening =
     ((have_in x < need) × Answers x (Refused (fault.NoFrames need (have_in x))) reply x') ⊎ ((need ≤ have_in x) × Happening)

@@ -18,8 +18,8 @@ use Rattle.interp.specs.Machine.{MachineState, Outcome, Next, start_state}
 use Rattle.interp.specs.Runs.{Reaches, Runs}
 
 -- Where a run begins, so far as it is known: with a context and the maps as they were then; or, for a run that
--- was found open, with the state that it had, after so many steps. A list of events that begins with a Step of an open
--- run says nothing of that run's context: for this list the run is `found_open s n`.
+-- was found open, with the state that it had, after so many steps. For example, of a list of events before which three steps of
+-- a run were made, the run begins at `found_open s 3`, where s is the state after these steps.
 pub data Beginning : Type 0 where
   started : List ℕ → FlatMaps → Beginning
   found_open : MachineState → ℕ → Beginning
@@ -88,7 +88,7 @@ pub record IsOpenRun (r : OpenRun) : Type 0 where
   pub reached : Leads r.program.text r.beginning r.steps (Next r.state)
   pub steps : r.steps ≤ instructions_before r.program.text r.state.slot
 
--- A run that begins where it was fulfilled is open, however it came there.
+-- A run that begins where it was found is open, however it came there.
 abbrev pub FoundIsOpen : Type 0
 FoundIsOpen = (r : OpenRun) → r.beginning ≡ found_open r.state r.steps → r.steps ≤ instructions_before r.program.text r.state.slot → IsOpenRun r
 

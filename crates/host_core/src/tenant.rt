@@ -254,7 +254,7 @@ impl Tenant {
         if self.run.is_some() {
             return Err(Fault::Busy);
         }
-        // A map that isn't there is reported before its use.
+        // A map that isn't there is refused before its use is asked.
         if memory.shape(number, map).is_none() {
             return Err(Fault::NoMap);
         }

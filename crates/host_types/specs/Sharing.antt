@@ -49,7 +49,7 @@ broken_page state = record state { status = Volatile; last = None }
 abbrev pub with_status : Status → PageState → PageState
 with_status status state = record state { status = status }
 
--- an index of a list
+-- an index that a list has
 abbrev pub is_among : ℕ → List ℕ → Bool
 is_among i page_indices = list_any (λ j. j == i) page_indices
 

@@ -32,7 +32,7 @@ first_mergeable page_index (page ∷ pages) = if is_mergeable page then Some pag
 abbrev pub next_from : Sharing → ℕ → Option ℕ
 next_from sharing page_index = first_mergeable page_index (drop page_index sharing.pages)
 
--- where the next visit looks first: after the page visited last, at the start of a pass at the first index
+-- the index at which the next visit looks first: after the page visited last, at the start of a pass at the first index
 abbrev pub look_from : Option ℕ → ℕ
 look_from None = 0
 look_from (Some i) = i + 1

@@ -1,5 +1,5 @@
 //! Where a program finds its memory (this project's own rule; docs/INSTRUCTIONS.md): an address is the number
-//! of a region and an index in it.
+//! of a region and an offset in it.
 
 /// How many addresses a region has.
 pub const REGION: u64 = 1 << 32;

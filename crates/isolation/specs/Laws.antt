@@ -1,4 +1,4 @@
--- Isolation: what a tenant is answered, and what becomes of it, is reported by its own events.
+-- Isolation: what a tenant is answered, and what becomes of it, follows from its own events.
 use Rattle.std.specs.Prelude.{◌≡◌, ℕ, Bool, true, List, All}
 use Rattle.host_types.specs.declared.event.Event.{Event}
 use Rattle.host_core.specs.declared.reply.Reply.{Reply}

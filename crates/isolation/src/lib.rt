@@ -1,4 +1,4 @@
-//! Isolation as one law: what a tenant is answered, and what becomes of its maps, its programs and its run, is reported by its
+//! Isolation as one law: what a tenant is answered, and what becomes of its maps, its programs and its run, follows from its
 //! own events, whatever happens between them, but for refusals where frames or memory are scarce.
 #![tactic(auto)]
 

@@ -1,4 +1,4 @@
--- Isolation with threads: what a tenant's runs are answered is reported by its maps, its programs and its contexts.
+-- Isolation with threads: what a tenant's runs are answered follows from its maps, its programs and its contexts.
 use Rattle.std.specs.Prelude.{◌≡◌, ℕ, List}
 use Rattle.host_types.specs.Tenant.{TenantPart}
 use Rattle.verifier.specs.Verified.{Accepted}

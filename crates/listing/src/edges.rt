@@ -1,4 +1,4 @@
-//! The edges that meet at a slot.
+//! The edges that join at a slot.
 
 use crate::knowledge::Knowledge;
 use std::alloc::{AllocError, Global};

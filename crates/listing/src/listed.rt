@@ -1,4 +1,4 @@
-//! What is reported of a text.
+//! What is printed of a text.
 
 ghost use Rattle.verifier.specs.Subject.{IsContextSize};
 ghost use Rattle.verifier.specs.Verified.{AreShapes};
@@ -12,14 +12,14 @@ use host_types::{Refused, Shape};
 use std::alloc::{AllocError, Global};
 use verifier::{Candidate, Verified, is_context_size, verify};
 
-/// What is reported of a text.
+/// What is printed of a text.
 #[derive(Drop)]
 pub struct Listed {
     /// Why the verifier refuses it, if it does.
     pub refused: Option<Refused>,
     /// What is known at its slots, of a text that is well formed.
     pub known: Option<Known>,
-    /// What gives the frames: the text, or one that begins as it does where it is refused.
+    /// What has the frames that each slot may take: the text, or one that begins as it does where it is refused.
     pub verified: Option<Verified>,
 }
 

@@ -79,7 +79,7 @@ impl fmt::Display for Fact {
     }
 }
 
-/// A location of which edges that meet say two things, the first two, and how many further edges say others.
+/// A location of which edges that join say two things, the first two, and how many further edges say others.
 #[derive(Clone, Copy, Debug)]
 pub struct Differing {
     pub location: Location,

@@ -16,7 +16,7 @@ pub enum Part {
     Instruction,
     /// What is known.
     Known,
-    /// What was known on edges that meet, and isn't the same on each.
+    /// What was known on edges that join, and isn't the same on each.
     Differs,
     /// What is refused.
     Refused,

@@ -121,7 +121,7 @@ impl Row {
         }
     }
 
-    /// Adds what the copies lead to where no run goes on: copies of blocks that have none, and, as the verifier verifies
+    /// Adds what the copies lead to where no run goes on: copies of blocks that have none, and, as the verifier checks
     /// both edges of a jump, jumps back to copies after all that runs reach.
     pub fn finish(&mut self, blocks: &Blocks) -> Result<(), Stop> {
         self.reached = self.items.len();

@@ -1,4 +1,4 @@
--- The law of every memory: how the pages' frames read together with what is reported of shared pages
+-- The law of every memory: how the pages' frames read together with what the sharing state says
 -- (this project's own rule).
 use Rattle.std.specs.Prelude.{◌≡◌, ◌≢◌, ◌⊎◌, ◌↔◌, ℕ, ◌+◌, ◌-◌, ◌*◌, ◌/◌, ◌%◌, ◌<◌, ◌≤◌, ◌==◌, ◌&&◌, not, Bool, false, List, [], length, filter, sum_by, All, AllPairs, Option, Some, None, option_map, unwrap_or, IsTrue, IsSome, IfSome}
 use Rattle.std.specs.List.{list_any, range_with_len}

@@ -204,7 +204,7 @@ abbrev pub sharing_of : TableState → Pass → Sharing
 sharing_of table pass =
     record { pages = states_of table.entries; groups = groups_of table; waiting = map waiting_of pass.waiting.listed; cursor = pass.cursor; options = pass.options; full_scans = pass.full_scans; pins = pass.pins }
 
--- how many frames the break of a page takes, reported by the pages that lie on its frame
+-- how many frames the break of a page takes, by how many pages lie on its frame
 unfoldable pub break_frames : TableState → ℕ → ℕ
 break_frames table i =
     unwrap_or (option_map (λ (entry : Entry). cost_of (nat_lt 1 (pages_on entry.frame table.entries)) entry.status) (entry_at table.entries i)) 0

@@ -42,7 +42,7 @@ abbrev pub is_at_or_before : Option ℕ → ℕ → Bool
 is_at_or_before None i = true
 is_at_or_before (Some c) i = nat_le i c
 
--- a waiting page has a frame of its own, is reported to wait, and was visited in this pass
+-- a waiting page has a frame of its own, has the status Waiting, and was visited in this pass
 pub record IsWaiter (entries : List (Option Entry)) (cursor : Option ℕ) (w : Waiter) : Type 0 where
   pub entry : Entry
   pub here : entry_at entries w.page_index ≡ Some entry

@@ -106,7 +106,7 @@ impl FrameCounts {
         }
     }
 
-    /// What all counts meet. The function does nothing.
+    /// What holds of all counts. The function does nothing.
     pub(crate) fn facts(&self)
         ensures { AreCounts self.now }
     {

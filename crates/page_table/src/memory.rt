@@ -232,7 +232,7 @@ impl Memory {
         self.table.arena()
     }
 
-    /// What each memory meets: how its frames and its shared pages read together. The function does
+    /// What holds of each memory: how its frames and its shared pages read together. The function does
     /// nothing.
     pub fn facts(&self)
         ensures { ReadsAs self.now }
@@ -240,7 +240,7 @@ impl Memory {
         self.table.facts();
     }
 
-    /// What each memory's maps meet: each tenant has eight entries for them, and the maps that are
+    /// What holds of each memory's maps: each tenant has eight entries for them, and the maps that are
     /// there have as many bytes as their shapes say. The function does nothing.
     pub fn maps_are_flat(&self)
         ensures there { (t : ℕ) → t < length self.now.tenants → length (part self.now t).maps ≡ 8 }

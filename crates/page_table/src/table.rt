@@ -88,7 +88,7 @@ impl Table {
         self.arena.frames();
     }
 
-    /// What the break of a page takes is reported by the pages on its frame, as the sharing has it.
+    /// What the break of a page takes follows from how many pages lie on its frame.
     pub(crate) fn costs_are_reported(&self)
         ensures { (pass : Pass) (i : ℕ) →
             break_cost (sharing_of self.now pass) i ≡ break_frames self.now i }
@@ -97,7 +97,7 @@ impl Table {
         let _entries = &self.entries;
     }
 
-    /// What each table meets, with some counts. The function does nothing.
+    /// What holds of each table, with some counts. The function does nothing.
     pub(crate) fn facts(&self)
         ensures { (counts : CountsState) × IsSound self.now counts × AreCounts counts }
     {

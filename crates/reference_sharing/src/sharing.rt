@@ -336,7 +336,7 @@ impl PlainSharing {
 
     /// One visit: of the next page that may be merged, where the scanner runs and there is one. The
     /// contents are the bytes of the page at each index, none past the list's end. It is refused only
-    /// where memory ran out; what is left then isn't reported.
+    /// where memory ran out; what is left then isn't said.
     pub fn visit(&mut self, alloc: Global, contents: &[Vec<u8>]) -> Result<Visited, AllocError>
         ensures { IfOk result (λ visited. visit (plain_contents contents.now) self.old ≡ (visited, self.new)) }
     {

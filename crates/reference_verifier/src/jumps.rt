@@ -130,7 +130,7 @@ fn with_range(known: &Description, register: u8, range: Option<Range>) -> Option
     Some(after)
 }
 
-/// What is known on both ways of a comparison.
+/// What is known on both branches of a comparison.
 #[derive(Drop)]
 struct Successors {
     taken: Option<Description>,
@@ -143,7 +143,7 @@ const NO_SUCCESSOR: Successors = Successors {
     not_taken: None,
 };
 
-/// The ways of a comparison of numbers.
+/// The branches of a comparison of numbers.
 fn of_numbers(
     comparison: Comparison,
     width: Width,
@@ -163,7 +163,7 @@ fn of_numbers(
     }
 }
 
-/// The ways of a null check of what the call at a slot answered.
+/// The branches of a null check of what the call at a slot answered.
 fn of_answer(comparison: Comparison, known: &Description, map: u32, call: u32) -> Successors {
     let mut null = *known;
     null.answer(call, Kind::constant(0));
@@ -200,7 +200,7 @@ fn not_of_numbers(a: Kind, b: Kind, rules: &mut Rules) {
     }
 }
 
-/// The ways of a comparison.
+/// The branches of a comparison.
 fn compared(
     comparison: Comparison,
     width: Width,

@@ -37,7 +37,7 @@ AreLookedUp parts [] [] = Unit {0}
 AreLookedUp parts (event ∷ events) (reply ∷ replies) = IsLookedUp parts event reply × AreLookedUp parts events replies
 AreLookedUp parts events replies = ⊥
 
--- what is reported of them
+-- what is printed of them
 abbrev pub lookup_tellings : List Event → List Reply → List Telling
 lookup_tellings (event ∷ events) (reply ∷ replies) = Answered event 0 reply ∷ lookup_tellings events replies
 lookup_tellings events replies = []

@@ -72,7 +72,7 @@ pub record HaveOpened (commands : List Command) (old new : List TenantPlan) : Ty
   pub homes : (t : ℕ) (plan : TenantPlan) → t < length old → AreOpenedFor t commands (home_of (get_or old t plan)) (home_of (get_or new t plan))
   pub runs : (t : ℕ) (plan : TenantPlan) → t < length old → (get_or new t plan).runs.items ≡ (get_or old t plan).runs.items
 
--- The memory in which a tenant was refused, where it had this part: missing frames are reported by what could be had of it.
+-- The memory in which a tenant was refused, where it had this part: missing frames are named with what could be had of it.
 pub record IsFoundIn (owned : TenantPart) (fault : Fault) (memory : MemoryState) : Type 0 where
   pub tenant : ℕ
   pub known : part memory tenant ≡ owned

@@ -1,4 +1,4 @@
--- What is reported of the runs of a served file (docs/HOST.md).
+-- What is printed of the runs of a served file (docs/HOST.md).
 use Rattle.std.specs.Prelude.{ℕ, ◌+◌, List, [], ◌∷◌, ◌++◌, flat_map, nat_eq, Result, Ok, Err, if◌then◌else◌}
 use Rattle.host_types.specs.declared.fault.Fault.{Fault}
 use Rattle.tenant_runs.specs.declared.driving.RunReply.{RunReply}
@@ -29,13 +29,13 @@ abbrev pub count_made : ℕ → Result RunReply Fault → ℕ
 count_made made (Ok reply) = made + 1
 count_made made (Err fault) = made
 
--- what is reported of a tenant's runs, in order: of each its reply, with the number of those that were made before it
+-- what is printed of a tenant's runs, in order: of each its reply, with the number of those that were made before it
 abbrev pub run_tellings : List Event → List (Result RunReply Fault) → ℕ → List Telling
 run_tellings [] replies made = []
 run_tellings (event ∷ events) [] made = []
 run_tellings (event ∷ events) (reply ∷ replies) made = Answered event made (whole_reply reply) ∷ run_tellings events replies (count_made made reply)
 
--- what is reported of all tenants' runs, from this tenant on
+-- what is printed of all tenants' runs, from this tenant on
 abbrev pub all_run_tellings : List Command → ℕ → List (List (Result RunReply Fault)) → List Telling
 all_run_tellings commands tenant [] = []
 all_run_tellings commands tenant (replies ∷ rest) = run_tellings (beginnings_for tenant commands) replies 0 ++ all_run_tellings commands (tenant + 1) rest

@@ -47,7 +47,7 @@ pub record IsServedTenant (commands : List Command) (t : ℕ) (outcome : TenantO
   pub ends : own_part last ≡ outcome.part
   pub answered : AreAnswered home.programs (runs_for t commands) first outcome.replies last
 
--- what is reported of them: of each run by tenant and in order, then of each lookup in the file's order
+-- what is printed of them: of each run by tenant and in order, then of each lookup in the file's order
 abbrev pub tellings_of : List Command → List TenantOutcome → List Reply → List Telling
 tellings_of commands outcomes answers =
     all_run_tellings commands 0 (map (λ outcome. outcome.replies) outcomes) ++ lookup_tellings (lookups_in commands) answers

@@ -16,7 +16,7 @@ pub record IsRunMade (v : Accepted) (context : List ℕ) (old : SeatState) (repl
   pub turns : HasGoneOn old new
 
 -- A run wasn't made, and the part stays. In the turn in which it was asked, the memory stayed too: missing frames are
--- reported by what could be had of it then, and where memory ran out, it had the frames.
+-- named with what could be had of it then, and where memory ran out, it had the frames.
 pub record IsNotMade (v : Accepted) (context : List ℕ) (old : SeatState) (fault : Fault) (new : SeatState) : Type 0 where
   pub refused : RefusesRunOnContext v context (own_part old) fault
   pub kept : own_part new ≡ own_part old

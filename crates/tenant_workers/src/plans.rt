@@ -51,7 +51,7 @@ pub struct Plan<'a> {
 }
 
 impl<'a> ScanPlan<'a> {
-    /// The plan's visits, one turn a visit, after each of which the gate is reported. No tenant's part changes.
+    /// The plan's visits, one turn a visit, after each of which the gate is called. No tenant's part changes.
     pub fn scan(&mut self, rt: &impl Wait, gate: &impl Gate)
         ensures shared { self.new.shared.now ≡ self.old.shared.now }
         ensures visits { self.new.visits ≡ self.old.visits }

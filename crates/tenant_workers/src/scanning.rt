@@ -20,7 +20,7 @@ impl Shared {
         self.scan_answered(rt, seat, visits, &Open);
     }
 
-    /// So many visits of the scanner, after each of which the gate is reported.
+    /// So many visits of the scanner, after each of which the gate is called.
     pub(crate) fn scan_answered(
         &self,
         rt: &impl Wait,

@@ -1,4 +1,4 @@
--- Text from outside as it is reported: no character of it steers a terminal.
+-- Text from outside as it is printed: no character of it steers a terminal.
 use Rattle.std.specs.Prelude.{◌≡◌, ℕ, ◌≤◌, List, [], ◌∷◌, Any, All, encode_utf8_all}
 
 -- a character lies between two, both among them

@@ -1,4 +1,4 @@
-//! Text from outside, reported so that no character of it steers a terminal.
+//! Text from outside, printed so that no character of it steers a terminal.
 #![tactic(auto)]
 
 ghost use Rattle.std.specs.Prelude.{◌≡◌, ◌↔◌, ◌++◌, IfOk, Any, IsTrue, OnOk};
@@ -21,11 +21,11 @@ const STEERING: [(u32, u32); 10] = [
     (0xe0000, 0xe007f),
 ];
 
-/// The most characters that are reported of a text.
+/// The most characters that are printed of a text.
 const MOST: usize = 40;
 
-/// A text from outside as it is reported: no more than 40 characters of it, and two dots where there are more.
-/// A character that could steer a terminal is reported by its number.
+/// A text from outside as it is printed: no more than 40 characters of it, and two dots where there are more.
+/// A character that could steer a terminal is printed as its number.
 pub fn quoted(alloc: Global, text: &str) -> Result<String, AllocError>
     ensures { IfOk result (λ shown. IsPlainText (string_bytes shown)) }
 {

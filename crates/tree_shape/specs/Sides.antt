@@ -1,4 +1,4 @@
--- What is the same on the left and on the right is reported of a node's far and near side: `true` where the left one is far.
+-- What is the same on the left and on the right is said of a node's far and near side: `true` where the left one is far.
 use Rattle.std.specs.Prelude.{ℕ, Bool, true, false, List}
 use Rattle.tree_shape.specs.declared.Node.{Node}
 use Rattle.tree_shape.specs.Shape.{Tree, AreSides, AreReady, IsJoinable}
@@ -25,7 +25,7 @@ abbrev pub IsJoinableBy : Bool → List Node → ℕ → ℕ → ℕ → Type 0
 IsJoinableBy true nodes x at y = IsJoinable nodes x at y
 IsJoinableBy false nodes x at y = IsJoinable nodes y at x
 
--- two sides of which each is reported by the far one
+-- two sides, of which the flag says which is the far one
 abbrev pub AreSidesBy : Bool → List Node → ℕ → ℕ → ℕ → Tree → Tree → Type 0
 AreSidesBy true nodes x at y t u = AreSides nodes x at y t u
 AreSidesBy false nodes x at y t u = AreSides nodes y at x u t

@@ -115,7 +115,7 @@ fn rebalance(nodes: &mut [Node], left: u32, at: u32, right: u32) -> u32
     at
 }
 
-/// Makes a slot a node between two sides, the far one first, and settles it.
+/// Makes a slot a node between two sides, the far one first, and rebalances it.
 fn rebalance_by(nodes: &mut [Node], left: bool, far: u32, at: u32, near: u32) -> u32
     requires { AreReadyBy left nodes.old far at near }
     ensures { (t o : Tree) → AreSidesBy left nodes.old far at near t o

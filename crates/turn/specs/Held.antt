@@ -21,7 +21,7 @@ abbrev pub IsTaken : SeatState → SeatState → Held → Type 0
 IsTaken old new held =
     (new ≡ took old (memory_of held)) × IsBy held old × RemembersParts old.view (memory_of held) × HasMaps old.view (memory_of held)
 
--- the holder's memory with another in its index
+-- the holder with another memory in place of its own
 abbrev pub with_memory : Held → MemoryState → Held
 with_memory held memory = record held { memory = record held.memory { value = memory } }
 

@@ -65,7 +65,7 @@ impl SeatOf<OfTenant> {
     ghost use Rattle.host_types.specs.Tenant.{AreFlatMaps};
     ghost use Rattle.turn.specs.Seats.{own_part};
 
-    /// What each tenant's seat meets: its tenant is there, and the maps that it has are flat. The function
+    /// What holds of each tenant's seat: its tenant is there, and the maps that it has are flat. The function
     /// does nothing.
     pub fn facts(&self)
         ensures { AreFlatMaps (own_part self.now).maps }

@@ -29,7 +29,7 @@ pub record Accepted : Type 0 where
   pub subject : Subject
   pub table : Table
 
--- what each accepted program meets
+-- what holds of each accepted program
 pub record IsVerified (v : Accepted) : Type 0 where
   pub subject : IsSubject v.subject
   pub tight : IsTightTable v.subject v.table

@@ -81,7 +81,7 @@ abbrev pub after_store_at : ℕ → Subject → Size → Source → Insn → Des
 after_store_at extra p size source insn d =
     both (read_kind d insn.dst) (operand_kind Bits64 source insn d) >>= λ x. stored_at extra p size insn d x.0 x.1
 
--- what is known on one way of a conditional jump
+-- what is known on one branch of a conditional jump
 abbrev pub on_successor_at : ℕ → Comparison → Width → Bool → Insn → Description → Compared → Option Description
 on_successor_at extra comparison width taken insn d (Numbers a b) = on_successor comparison width taken insn d (Numbers a b)
 on_successor_at extra comparison width true insn d (Answer m call) = Some (with_answer_known call (raised_kind extra (checked_kind m (holds_of_null comparison))) d)
@@ -117,8 +117,9 @@ raised_table extra table = map (option_map (raised_description extra)) table
 abbrev pub IsKeptWide : ℕ → Subject → Table → ℕ → Description → Type 0
 IsKeptWide extra p table slot d = (targets : List (ℕ × Description)) × (flow_at extra p slot d ≡ Ok targets) × All (IsContained table) targets
 
--- A lawful table whose numbers of offsets are `extra` more than those of the verifier. `flow_at` is `flow` after `extra` is
--- taken off; the clauses that differ are those of pointers to a map's value: moved, loaded from, stored to, compared, passed.
+-- A lawful table whose numbers of offsets are `extra` more than those of the verifier: the number n stands for the offset
+-- n - 65536 - extra, so with `extra` 65536 the number 0 stands for -131072. `flow_at` differs from `flow` in five operations (Alu,
+-- Load, Store, LoadImmediate, Branch), and in these by `extra` alone.
 pub record IsWideLawful (p : Subject) (extra : ℕ) (table : Table) : Type 0 where
   pub start : IsContained table (0, start_description)
   pub instructions : (slot : ℕ) (d : Description) → described table slot ≡ Some d → IsInstruction p.text slot

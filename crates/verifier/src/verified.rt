@@ -23,7 +23,7 @@ use verifier_kinds::Kind;
 
 /// An accepted program, with the shapes of the maps that it may use, the size of its context, and
 /// what is known at each of its slots. Contracts see these. Which maps it names, and what the rest of
-/// a run may need from each slot on, are kept beside them, so that they are reported in constant time.
+/// a run may need from each slot on, are kept beside them, so that they are read in constant time.
 #[derive(Drop)]
 pub struct Verified {
     candidate: Candidate,
@@ -150,7 +150,7 @@ impl Verified {
     }
 
     /// Whether an instruction, reached or not, names a map: it loads the map's name, or an address in
-    /// the map's first value. Of the numbers 0 to 7 it's reported in constant time.
+    /// the map's first value. Of the numbers 0 to 7 it is answered in constant time.
     pub fn names(&self, map: u32) -> bool
         ensures { result ≡ names self.now.subject.text map }
     {
@@ -167,7 +167,7 @@ impl Verified {
         self.candidate.ctx_size()
     }
 
-    /// What each accepted program meets. The function does nothing.
+    /// What holds of each accepted program. The function does nothing.
     pub fn facts(&self)
         ensures { IsVerified self.now }
     {

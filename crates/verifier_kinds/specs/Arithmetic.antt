@@ -157,7 +157,7 @@ within_value m align (pos low) (pos high) = if nat_le high 131072 then Ok (MapVa
 within_value m align low high = Err outside_map
 
 -- A pointer to a map's value is moved by any number, and moved back by a constant; what it may become there is
--- reported of the alignment and the two ends.
+-- said of the alignment and the two ends.
 abbrev pub displaced_by : (Align → ℤ → ℤ → Result Kind ℕ) → AluCode → Width → Offsets → Range → Result Kind ℕ
 displaced_by within Add Bits64 offsets by =
     within (least_align offsets.align by.align) (pos offsets.low +ℤ signed_offset by by.low) (pos offsets.high +ℤ signed_offset by by.high)

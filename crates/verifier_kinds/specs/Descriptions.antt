@@ -65,12 +65,12 @@ DescribesRegisters setting d registers = (i : ℕ) → Describes setting (regist
 abbrev pub DescribesStack : Setting → Description → List (Option ℕ) → Type 0
 DescribesStack setting d stack = (k : ℕ) → DescribesSlot setting (slot_of d k) (part_of stack (8 * k) 8)
 
--- what each slot of the verifier meets
+-- what holds of each stack slot of the verifier
 abbrev pub IsSlot : StackSlot → Type 0
 IsSlot (Kept kind) = IsKind kind
 IsSlot (Bytes set) = set < 256
 
--- what each description of the verifier meets
+-- what holds of each description of the verifier
 pub record IsDescription (d : Description) : Type 0 where
   pub registers : length d.registers ≡ 11
   pub stack : length d.stack ≡ 64
@@ -92,7 +92,7 @@ pub record IsOfCallsBelow (slot : ℕ) (d : Description) : Type 0 where
   pub registers : (i : ℕ) → IfSome (register_of d i) (IsOfCallBelow slot)
   pub stack : (k : ℕ) → IsSlotOfCallBelow slot (slot_of d k)
 
--- What the description of a slot of the program meets in a lawful table: eleven registers and 64 slots
+-- What holds of the description of a slot of the program in a lawful table: eleven registers and 64 slots
 -- of the stack, normal ranges, and calls before the slot.
 pub record IsLawfulAt (slot : ℕ) (d : Description) : Type 0 where
   pub registers : length d.registers ≡ 11

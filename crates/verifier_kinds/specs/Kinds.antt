@@ -154,7 +154,7 @@ pub record AreOffsets (offsets : Offsets) : Type 0 where
   pub normal : IsNormal (range_in offsets)
   pub below : offsets.high ≤ 131072
 
--- what each kind of the verifier meets
+-- what holds of each kind of the verifier
 abbrev pub IsKind : Kind → Type 0
 IsKind (Scalar range) = IsNormal range
 IsKind (Context offset) = IsOffset offset

@@ -1,4 +1,4 @@
--- What a conditional jump says of dst on each of its two ways (this project's own profile).
+-- What a conditional jump says of dst on each of its two branches (this project's own profile).
 use Rattle.std.specs.Prelude.{ℕ, ◌+◌, ◌-◌, ◌==◌, nat_lt, nat_le, min, max, Bool, ◌&&◌, if◌then◌else◌, Option, Some, None, option_map}
 use Rattle.bpf_decode.specs.declared.insn.Insn.{Insn}
 use Rattle.bpf_decode.specs.declared.operation.Width.{Width}

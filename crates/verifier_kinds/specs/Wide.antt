@@ -70,7 +70,7 @@ abbrev pub IsWideSlot : StackSlot → Type 0
 IsWideSlot (Kept kind) = IsWideKind kind
 IsWideSlot (Bytes set) = set < 256
 
--- what the description of a slot of the program meets in such a table
+-- what holds of the description of a slot of the program in such a table
 pub record IsWideAt (slot : ℕ) (d : Description) : Type 0 where
   pub registers : length d.registers ≡ 11
   pub stack : length d.stack ≡ 64

@@ -1,4 +1,4 @@
-//! What a conditional jump says of dst on each of its two ways (this project's own profile).
+//! What a conditional jump says of dst on each of its two branches (this project's own profile).
 
 ghost use Rattle.std.specs.Prelude.{◌≡◌, ◌+◌, ◌-◌, ◌^◌, ◌<◌, min, max, IfSome};
 ghost use Rattle.insn_alu.specs.Comparisons.{IsBranch};
@@ -11,7 +11,7 @@ use bpf_decode::{Comparison, Insn, Operation, Width};
 
 /// The kind of dst where a conditional jump is taken, or isn't; `a` is what it is before, and `b` the
 /// kind of the second operand. `None`: no number goes that way. Only numbers are compared with
-/// numbers: of any other kind nothing is reported.
+/// numbers: of any other kind it says nothing.
 #[tactic(auto, using(crate::proofs::Refinement::refined_is_kind))]
 pub fn refine(insn: &Insn, taken: bool, a: Kind, b: Kind) -> Option<Kind>
     requires branch { IsBranch insn.now }

@@ -9,7 +9,7 @@ use admission::whole_need;
 use std::fmt;
 use verifier::Verified;
 
-/// What is reported of a program that is accepted.
+/// What is printed of a program that is accepted.
 #[derive(Clone, Copy, Debug)]
 pub struct Acceptance {
     slots: u32,

@@ -89,7 +89,7 @@ fn no_hex(alloc: Global, hex: &str) -> FileFault
                 "HEX has `{c}` at character {location}, counted from 0, which is no hex digit"
             )
         }
-        // A line break too is reported by its number.
+        // A line break too is printed as its number.
         Some((location, c)) => {
             let c = c.escape_unicode();
             format!(in alloc;
