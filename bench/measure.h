@@ -1,0 +1,31 @@
+/* What the measures share. A file that includes this defines _POSIX_C_SOURCE first. */
+#ifndef MEASURE_H
+#define MEASURE_H
+
+#include <stdint.h>
+#include <stdio.h>
+#include <stdlib.h>
+#include <time.h>
+
+/* Nanoseconds since some point in time. */
+static double now(void)
+{
+    struct timespec t;
+    clock_gettime(CLOCK_MONOTONIC, &t);
+    return (double)t.tv_sec * 1e9 + (double)t.tv_nsec;
+}
+
+/* Keeps the least of several times, since others use the machine too. */
+static void keep_least(double *least, double spent)
+{
+    if (spent < *least)
+        *least = spent;
+}
+
+/* The number that an argument is, or another one where there is none. */
+static int number_of(int words, char **word, int at, int otherwise)
+{
+    return words > at ? atoi(word[at]) : otherwise;
+}
+
+#endif

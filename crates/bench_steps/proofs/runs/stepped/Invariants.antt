@@ -1,6 +1,0 @@
-use Rattle.interp.specs.Machine.{MachineState}
-use Rattle.interp.specs.StandsFor.{StandsFor}
-use Rattle.bench_steps.proofs.runs.stepped.Given as goal
-
-abbrev pub invariant-steps : goal.invariant-steps
-invariant-steps l = (s : MachineState) × StandsFor l.program l.run s
