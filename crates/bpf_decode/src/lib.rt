@@ -15,5 +15,5 @@ pub use code::Code;
 pub use insn::{FRAME_POINTER, Insn};
 pub use operation::{AluCode, Comparison, Distance, Extension, Operation, Size, Source, Width};
 pub use program::{Program, decode};
-pub use text::judgement_is_one;
+pub use text::verdict_is_one;
 pub use typed::Typed;

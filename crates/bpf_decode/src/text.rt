@@ -63,7 +63,7 @@ fn fault_at(text: &[u8], slot: usize, insn: &Insn) -> Option<u32>
 
 /// A text that is well formed has no fault, and a text has one first fault. This is a law about the
 /// definitions: the function does nothing.
-pub fn judgement_is_one()
+pub fn verdict_is_one()
     ensures exclusive { WellFormedHasNoFault }
     ensures one { FirstFaultIsOne }
 {}

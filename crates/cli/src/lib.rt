@@ -9,7 +9,7 @@ use command_line::{Request, WrongWords, request_of};
 use engines::check::check;
 use engines::replay::replay;
 use event_line::event_line;
-use host_file::{BadFile, EntryIndex, FileFault, MAX_BYTES};
+use host_file::{BadFile, FileFault, Location, MAX_BYTES};
 use progress::Plans;
 pub use progress::Progress;
 use serving::serve_file;
@@ -102,7 +102,7 @@ fn name_file<R: Read + Seek, E: Write>(
         Err(
             FileFault::Bad(
                 BadFile {
-                    entry_index: EntryIndex::Event(number),
+                    location: Location::Event(number),
                     ..
                 },
             ),

@@ -1,7 +1,7 @@
 //! The words of `explain`.
 
 use crate::{
-    Asked, VERSION, WrongWords, answered_of, context, hex_or_file, said_of, shapes, text_asked,
+    Asked, VERSION, WrongWords, context, hex_or_file, printed_of, said_of, shapes, text_asked,
     usage,
 };
 use clap::{Arg, ArgAction, Command};
@@ -37,7 +37,7 @@ pub fn explained_of<'a>(
             if let Some(text) = text_asked(alloc, &error)? {
                 return Ok(Asked::Text(text));
             }
-            let answered = answered_of(alloc, NAME, words).map_err(WrongWords::OutOfMemory)?;
+            let answered = printed_of(alloc, NAME, words).map_err(WrongWords::OutOfMemory)?;
             return Err(usage(said_of(alloc, command(alloc), answered.as_slice())));
         }
     };

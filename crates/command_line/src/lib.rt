@@ -59,7 +59,7 @@ pub enum WrongWords {
 pub fn request_of<'a>(alloc: Global, words: &'a [String]) -> Result<Request<'a>, WrongWords> {
     let host = command(alloc).map_err(WrongWords::OutOfMemory)?;
     let Ok(matches) = host.try_get_matches_from(words) else {
-        let answered = answered_of(alloc, NAME, words).map_err(WrongWords::OutOfMemory)?;
+        let answered = printed_of(alloc, NAME, words).map_err(WrongWords::OutOfMemory)?;
         return Err(usage(said_of(alloc, command(alloc), answered.as_slice())));
     };
     if let Some(check) = matches.subcommand_matches("check") {
@@ -81,7 +81,7 @@ fn path_of<'a>(matches: &ArgMatches<'a>, name: &str) -> Option<&'a str> {
 
 /// Words as they are printed: cut as words from outside are. The first of them is the program's own path, of which just
 /// the name is printed.
-fn answered_of(alloc: Global, name: &str, words: &[String]) -> Result<Vec<String>, AllocError> {
+fn printed_of(alloc: Global, name: &str, words: &[String]) -> Result<Vec<String>, AllocError> {
     let mut answered = Vec::new(alloc);
     answered.push(String::from_str(alloc, name)?)?;
     for word in words.iter().skip(1) {

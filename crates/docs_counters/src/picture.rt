@@ -129,7 +129,7 @@ fn write_line<W: Write>(
             write!(
                 writer,
                 "H{}V{}",
-                entry_index(point.event, history.events),
+                x_of(point.event, history.events),
                 height(number, most)
             )?;
         }
@@ -158,7 +158,7 @@ fn write_legend<W: Write>(writer: &mut W, line: Line, y: u64) -> io::Result<()> 
 }
 
 /// How far right an event stands.
-fn entry_index(event: u64, events: u64) -> u64 {
+fn x_of(event: u64, events: u64) -> u64 {
     let wide = event.saturating_mul(RIGHT - LEFT);
     LEFT.saturating_add(wide / events.max(1))
 }

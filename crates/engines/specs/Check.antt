@@ -13,7 +13,7 @@ use Rattle.bpf_decode.specs.Text.{slots_of, instructions_of}
 use Rattle.verifier.specs.Subject.{Subject, IsContextSize}
 use Rattle.admission.specs.Reserve.{whole_need}
 use Rattle.verifier.specs.Verified.{Accepted, AreShapes, IsVerified}
-use Rattle.host_calls.specs.Programs.{IsJudgement, subject_for}
+use Rattle.host_calls.specs.Programs.{IsVerdict, subject_for}
 use Rattle.engines.specs.declared.check.request.CheckRequest.{CheckRequest}
 use Rattle.host_types.specs.Refusals.{refusal_text}
 use Rattle.engines.specs.Lines.{line_of}
@@ -47,7 +47,7 @@ abbrev pub IsCheckRefusal : CheckRequest → Fault → Type 0
 IsCheckRefusal asked TooManyMaps = 8 < length asked.shapes.items
 IsCheckRefusal asked BadShape = (length asked.shapes.items ≤ 8) × ¬ (All (λ shape. IfSome shape IsShape) asked.shapes.items)
 IsCheckRefusal asked BadContext = AreShapes asked.shapes.items × ¬ (IsContextSize asked.context_size)
-IsCheckRefusal asked fault = AreShapes asked.shapes.items × IsContextSize asked.context_size × IsJudgement (subject_asked asked) fault
+IsCheckRefusal asked fault = AreShapes asked.shapes.items × IsContextSize asked.context_size × IsVerdict (subject_asked asked) fault
 
 -- a program is accepted: it has a lawful table
 abbrev pub IsAccepted : Subject → Accepted → Type 0
@@ -64,8 +64,8 @@ acceptance_of v = acceptance_text (slots_of v.subject.text) (instructions_of v.s
 
 -- A status and a line give the judgement: 0 that the program is accepted; 1 that it is refused, with the refusal
 -- that was found, which may be want of memory.
-abbrev pub PrintsJudgement : CheckRequest → ℕ → List ℕ → Type 0
-PrintsJudgement asked status line =
+abbrev pub PrintsVerdict : CheckRequest → ℕ → List ℕ → Type 0
+PrintsVerdict asked status line =
     ((status ≡ 0) × ((accepted : Accepted) × (line ≡ line_of (acceptance_of accepted)) × IsAccepted (subject_asked asked) accepted))
     ⊎ ((status ≡ 1) × ((fault : Fault) × (line ≡ line_of (refusal_text fault)) × IsCheckRefusal asked fault))
 
@@ -73,7 +73,7 @@ PrintsJudgement asked status line =
 abbrev pub AnswersWords : List ℕ → List (Bor (List ℕ)) → List ℕ → Option (List ℕ) → Option (List ℕ) → ℕ → Type 0
 AnswersWords hex maps context old new status =
     (asked : CheckRequest) × (line : List ℕ) × IsAsked hex maps context asked
-    × PrintsJudgement asked status line × Appends old new line
+    × PrintsVerdict asked status line × Appends old new line
 
 -- the words ask for nothing that can be verified
 abbrev pub AskNothing : List ℕ → List (Bor (List ℕ)) → List ℕ → Type 0

@@ -80,7 +80,7 @@ impl Both {
     fn read(&mut self) -> Option<u64> {
         let frame = self.frame();
         let size = self.draws.size();
-        let at = self.draws.entry_index(size);
+        let at = self.draws.offset(size);
         agreed(
             self.arena.read(frame, at, size),
             self.plain.read(frame, at, size),
@@ -90,7 +90,7 @@ impl Both {
     fn write(&mut self) -> Option<u64> {
         let frame = self.frame();
         let size = self.draws.size();
-        let at = self.draws.entry_index(size);
+        let at = self.draws.offset(size);
         let value = u64::from(self.draws.below(2)) * 72_340_172_838_076_673;
         self.arena.write(frame, at, size, value);
         self.plain.write(frame, at, size, value);
@@ -100,13 +100,13 @@ impl Both {
     fn get(&mut self) -> Option<u64> {
         let frame = self.frame();
         let count = self.draws.below(MOST) + 1;
-        let at = self.draws.entry_index(count);
+        let at = self.draws.offset(count);
         let mut bytes = [0; MOST as usize];
         self.arena.get(frame, at, &mut bytes[..count as usize]);
         let mut sum = 0u64;
-        for entry_index in 0..count {
-            let byte = bytes[entry_index as usize];
-            if byte != self.plain.byte(frame, at + entry_index) {
+        for offset in 0..count {
+            let byte = bytes[offset as usize];
+            if byte != self.plain.byte(frame, at + offset) {
                 return None;
             }
             sum = sum.wrapping_mul(31).wrapping_add(u64::from(byte));
@@ -117,7 +117,7 @@ impl Both {
     fn put(&mut self) -> Option<u64> {
         let frame = self.frame();
         let count = self.draws.below(MOST) + 1;
-        let at = self.draws.entry_index(count);
+        let at = self.draws.offset(count);
         let byte = self.draws.below(2) as u8;
         let bytes = [byte; MOST as usize];
         self.arena.put(frame, at, &bytes[..count as usize]);

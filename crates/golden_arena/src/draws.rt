@@ -37,7 +37,7 @@ impl Draws {
     }
 
     /// Where so many bytes of a page begin.
-    pub(crate) fn entry_index(&mut self, size: u32) -> u32
+    pub(crate) fn offset(&mut self, size: u32) -> u32
         requires { size ≤ 64 }
         ensures { result + size ≤ 4096 }
     {

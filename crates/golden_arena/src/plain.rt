@@ -30,8 +30,8 @@ impl PlainPages {
     /// Writes a byte of a page.
     pub(crate) fn set(&mut self, frame: u32, at: u32, byte: u8) {
         if let Some(page) = self.pages.get_mut(frame as usize) {
-            if let Some(entry_index) = page.get_mut(at as usize) {
-                *entry_index = byte;
+            if let Some(offset) = page.get_mut(at as usize) {
+                *offset = byte;
             }
         }
     }
@@ -39,8 +39,8 @@ impl PlainPages {
     /// The number in some bytes, the lowest byte first.
     pub(crate) fn read(&self, frame: u32, at: u32, size: u32) -> u64 {
         let mut number = 0u64;
-        for entry_index in 0..size {
-            let byte = self.byte(frame, at.wrapping_add(size - 1 - entry_index));
+        for offset in 0..size {
+            let byte = self.byte(frame, at.wrapping_add(size - 1 - offset));
             number = number.wrapping_mul(256).wrapping_add(u64::from(byte));
         }
         number
@@ -49,18 +49,18 @@ impl PlainPages {
     /// Writes the lowest bytes of a number, the lowest first.
     pub(crate) fn write(&mut self, frame: u32, at: u32, size: u32, value: u64) {
         let mut rest = value;
-        for entry_index in 0..size {
-            self.set(frame, at.wrapping_add(entry_index), (rest % 256) as u8);
+        for offset in 0..size {
+            self.set(frame, at.wrapping_add(offset), (rest % 256) as u8);
             rest /= 256;
         }
     }
 
     /// Writes some bytes.
     pub(crate) fn put(&mut self, frame: u32, at: u32, bytes: &[u8]) {
-        let mut entry_index = at;
+        let mut offset = at;
         for byte in bytes {
-            self.set(frame, entry_index, *byte);
-            entry_index = entry_index.wrapping_add(1);
+            self.set(frame, offset, *byte);
+            offset = offset.wrapping_add(1);
         }
     }
 

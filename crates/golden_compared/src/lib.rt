@@ -9,14 +9,13 @@
 #![tactic(auto)]
 
 mod changes;
-mod judges;
 mod row;
 mod rows;
 mod runs;
 mod shapes;
+mod verdicts;
 
 use changes::all_agree;
-pub use judges::verdicts_agree;
 use row::Row;
 pub use row::text_of;
 pub use rows::{Finding, Rows, compare_rows};
@@ -25,6 +24,7 @@ pub use shapes::shapes_of;
 use std::alloc::{AllocError, Global};
 use std::io;
 use std::io::Input;
+pub use verdicts::verdicts_agree;
 
 /// The rows of results that the kernel or a worked example gives.
 #[derive(Drop)]

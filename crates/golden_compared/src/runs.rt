@@ -3,7 +3,7 @@ ghost use Rattle.verifier.specs.Subject.{IsContextSize, padded};
 ghost use Rattle.interp.specs.Machine.{MachineState};
 ghost use Rattle.interp.specs.StandsFor.{StandsFor};
 
-use crate::judges::verdicts_agree;
+use crate::verdicts::verdicts_agree;
 use bpf_decode::{Program, decode};
 use host_types::Refused;
 use interp::{Need, Run};

@@ -1,6 +1,6 @@
 //! Texts that programs become by a few changes.
 
-use crate::choices::{entry_index_offset, immediate, one_of};
+use crate::choices::{immediate, index_offset, one_of};
 use crate::instructions::instruction;
 use std::alloc::{AllocError, Global};
 use tests_inputs::texts::{COUNTER, GUARDED, MASKED, RETURN, STORES, UPDATE};
@@ -20,9 +20,9 @@ fn program(draws: &mut Draws) -> &'static [u8] {
 
 /// Overwrites bytes of a text from one on, as far as it has them.
 fn put(text: &mut [u8], at: usize, bytes: &[u8]) {
-    for entry_index in 0..bytes.len() {
-        if let Some(byte) = text.get_mut(at.saturating_add(entry_index)) {
-            *byte = bytes[entry_index];
+    for number_of_byte in 0..bytes.len() {
+        if let Some(byte) = text.get_mut(at.saturating_add(number_of_byte)) {
+            *byte = bytes[number_of_byte];
         }
     }
 }
@@ -39,7 +39,7 @@ fn change(text: &mut [u8], at: usize, draws: &mut Draws) {
         3 => put(
             text,
             at.saturating_add(2),
-            &entry_index_offset(draws, 0).to_le_bytes(),
+            &index_offset(draws, 0).to_le_bytes(),
         ),
         _ => put(text, at, &instruction(draws).bytes()),
     }

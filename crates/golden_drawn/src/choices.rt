@@ -42,7 +42,7 @@ pub(crate) fn immediate(draws: &mut Draws) -> i32 {
 }
 
 /// An offset of an access at a register: mostly a multiple of four near 0, below the stack's end.
-pub(crate) fn entry_index_offset(draws: &mut Draws, base: u8) -> i16 {
+pub(crate) fn index_offset(draws: &mut Draws, base: u8) -> i16 {
     match draws.below(8) {
         0 => draws.below(40) as i16 - 16,
         1 => -8,

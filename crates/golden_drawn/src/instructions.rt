@@ -1,7 +1,7 @@
 //! Instructions that are drawn, mostly of registers that a built text gives a meaning to: R0, R6 and R8 are
 //! numbers, R2 and R3 lead to the stack, R7 to the context, and R9 to a map's value.
 
-use crate::choices::{entry_index_offset, immediate, one_of, rarely, register_of};
+use crate::choices::{immediate, index_offset, one_of, rarely, register_of};
 use tests_inputs::Draws;
 
 /// The registers that are mostly numbers.
@@ -139,7 +139,7 @@ fn load(draws: &mut Draws) -> Slot {
     let opcode = one_of(draws, &LOADS);
     let dst = register_of(draws, &NUMBERS);
     let base = register_of(draws, &ADDRESSES);
-    Slot::new(opcode, dst, base).at(entry_index_offset(draws, base))
+    Slot::new(opcode, dst, base).at(index_offset(draws, base))
 }
 
 /// A store, mostly to the stack or to a map's value.
@@ -148,9 +148,9 @@ fn store(draws: &mut Draws) -> Slot {
     let base = register_of(draws, &[10, 10, 2, 3, 9, 9]);
     if opcode % 8 == 3 {
         let src = register_of(draws, &[0, 8, 6, 8, 6, 8, 2, 7]);
-        Slot::new(opcode, base, src).at(entry_index_offset(draws, base))
+        Slot::new(opcode, base, src).at(index_offset(draws, base))
     } else {
-        let slot = Slot::new(opcode, base, 0).at(entry_index_offset(draws, base));
+        let slot = Slot::new(opcode, base, 0).at(index_offset(draws, base));
         slot.with(immediate(draws))
     }
 }

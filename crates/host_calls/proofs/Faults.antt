@@ -8,7 +8,7 @@ use Rattle.bpf_decode.specs.declared.insn.Insn.{Insn}
 use Rattle.bpf_decode.specs.Opcodes.{insn_fault}
 use Rattle.bpf_decode.specs.Text.{slots_of, is_instruction, second_slot_fault, smallest, fault_at, HasLength, IsFineBefore, IsWellFormed, IsFirstFault, out_of_memory}
 use Rattle.verifier.specs.Subject.{Subject}
-use Rattle.host_calls.specs.Programs.{IsJudgement}
+use Rattle.host_calls.specs.Programs.{IsVerdict}
 
 -- a fault of a text has one of the first five numbers
 abbrev IsFew : Option ℕ → Type 0
@@ -87,7 +87,7 @@ answered_fault refused = if refused.number == 41 then OutOfMemory else Program r
 
 -- a text that was not decoded
 pub verdict_undecoded : (p : Subject) (text : List ℕ) (refused : Refused) (fault : Fault) → p.text ≡ text → fault ≡ answered_fault refused → (refused ≡ out_of_memory) ⊎ IsFirstFault text refused
-    → ((other : Refused) → IsFirstFault text other → refused ≡ other) → IsJudgement p fault
+    → ((other : Refused) → IsFirstFault text other → refused ≡ other) → IsVerdict p fault
 verdict_undecoded p text refused fault whose is (inl lacks) one =
     let none : HasNoFault text = λ other fails. let few = first_fault_few text other fails in let same = one other fails in absurd (omega (arith, few, ap (λ (r : Refused). r.number) same, ap (λ (r : Refused). r.number) lacks)) in
     let memory : fault ≡ OutOfMemory = rw lacks at is in

@@ -26,14 +26,14 @@ subject_of owned text size = subject_for (shapes_of owned.maps) text size
 
 -- Why a text isn't accepted: by its first fault, or else by the first rule that it breaks; or, where it has no
 -- fault, for want of memory.
-abbrev pub IsJudgement : Subject → Fault → Type 0
-IsJudgement p fault = ((fault ≡ OutOfMemory) × IsWellFormed p.text)
+abbrev pub IsVerdict : Subject → Fault → Type 0
+IsVerdict p fault = ((fault ≡ OutOfMemory) × IsWellFormed p.text)
     ⊎ ((refusal : Refused) × (fault ≡ Program refusal) × (IsFirstFault p.text refusal ⊎ (IsWellFormed p.text × IsRefusal p refusal)))
 
 -- why a program isn't loaded: its context is out of limits, or else its text isn't accepted
 abbrev pub RefusesProgram : Subject → Fault → Type 0
 RefusesProgram p fault =
-    ((fault ≡ BadContext) × ¬ (IsContextSize p.context_size)) ⊎ (IsContextSize p.context_size × IsJudgement p fault)
+    ((fault ≡ BadContext) × ¬ (IsContextSize p.context_size)) ⊎ (IsContextSize p.context_size × IsVerdict p fault)
 
 -- when a run doesn't begin for want of frames: fewer may be had than the tenant's whole run of the program may need
 abbrev pub RefusesBegin : Accepted → TenantPart → Fault → Type 0

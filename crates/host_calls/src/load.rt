@@ -2,7 +2,7 @@ ghost use Rattle.std.specs.Prelude.{◌≡◌, IfOk, IfErr};
 ghost use Rattle.bpf_decode.specs.Text.{IsWellFormed};
 ghost use Rattle.verifier.specs.Subject.{IsContextSize};
 ghost use Rattle.verifier.specs.Verified.{AreShapes, IsVerified};
-ghost use Rattle.host_calls.specs.Programs.{IsJudgement, subject_for};
+ghost use Rattle.host_calls.specs.Programs.{IsVerdict, subject_for};
 
 use bpf_decode::decode;
 use host_types::{Fault, Shape};
@@ -25,7 +25,7 @@ pub fn decode_and_verify(
     ensures subject { IfOk result (λ v. v.subject ≡ subject_for shapes.now text.now ctx_size) }
     ensures well_formed { IfOk result (λ _. IsWellFormed text.now) }
     ensures verified { IfOk result IsVerified }
-    ensures refused { IfErr result (IsJudgement (subject_for shapes.now text.now ctx_size)) }
+    ensures refused { IfErr result (IsVerdict (subject_for shapes.now text.now ctx_size)) }
 {
     let program = match decode(alloc, text) {
         Ok(program) => program,

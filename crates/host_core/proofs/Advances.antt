@@ -35,7 +35,7 @@ use Rattle.tenant_runs.proofs.Roomy.{answered_slot}
 use Rattle.host_core.specs.declared.tenant.OpenRun.{OpenRun as KeptRun}
 use Rattle.host_core.specs.World.{pins_of}
 use Rattle.host_core.specs.Happens.{sharing_after}
-use Rattle.host_core.specs.Stretches.{IsUnderWayAt, HasAdvanced, AreMade, AreMadeFrom, KeepsPins, IsAnswered, went_on, answered, ended, needed_in, part_in, reserved_of}
+use Rattle.host_core.specs.Batches.{IsUnderWayAt, HasAdvanced, AreMade, AreMadeFrom, KeepsPins, IsAnswered, went_on, answered, ended, needed_in, part_in, reserved_of}
 use Rattle.host_core.proofs.Instructions.{instructions_before-within}
 
 -- the program that was taken is the one that stands at the index

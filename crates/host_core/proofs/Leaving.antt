@@ -73,7 +73,7 @@ module _ (t k : ℕ) (old : TenantView) (memory : MemoryState) where
         verified = All-set (λ entry_index. IfSome entry_index IsVerified) old.programs k None tt stands.verified;
         shapes = All-set (λ entry_index. IfSome entry_index Fitting) old.programs k None tt stands.shapes;
         run = run-closed old.programs (set old.programs k None) old.run tenant.run idle stands.run;
-        fulfils = record { maps = stands.fulfils.maps; entry_indices = length-set tenant.programs k None ∙ stands.fulfils.entry_indices; run = stands.fulfils.run; same = stands.fulfils.same };
+        fulfils = record { maps = stands.fulfils.maps; eight = length-set tenant.programs k None ∙ stands.fulfils.eight; run = stands.fulfils.run; same = stands.fulfils.same };
       }
 
   pub unload-done : (v : Accepted) → is_some old.run ≡ false → accepted_at old k ≡ Some v → ReadsAs memory → IsServed t old memory (Unload t k) Done (record old { programs = set old.programs k None }) memory

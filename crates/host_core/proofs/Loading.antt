@@ -21,7 +21,7 @@ use Rattle.verifier.specs.Table.{IsTightTable, IsRefusal}
 use Rattle.verifier.specs.Verified.{Accepted, IsVerified}
 use Rattle.verifier.proofs.NamedMaps.{asked_shape}
 use Rattle.interp.specs.Fits.{HaveShapes}
-use Rattle.host_calls.specs.Programs.{IsJudgement, shapes_of, subject_of}
+use Rattle.host_calls.specs.Programs.{IsVerdict, shapes_of, subject_of}
 use Rattle.host_calls.proofs.ShapesRead.{shape_of_map}
 use Rattle.host_types.specs.declared.event.Event.TheVariants.{Load}
 use Rattle.host_core.specs.declared.reply.Reply.TheVariants.{Program, Refused}
@@ -159,8 +159,8 @@ module _ (t : ℕ) (old : TenantView) (memory : MemoryState) (text : List ℕ) (
             (OfTenant-there x t (Refused f) x _ tenant there (RefusedOr-else (load_refusal tenant size) x (Refused f) x _ (allowed tenant stands) (happens x tenant owned)), tt))
 
         -- a text that isn't accepted
-        pub load-verdict : (f : Fault) → IsJudgement (subject_of (part memory t) text size) f → IsServed t old memory (Load t text size) (Refused f) old memory
-        load-verdict f (inl (lacks, well)) = load-tried f (λ x tenant owned. LoadHappens.refusal_or_out_of_memory well (ap Refused lacks, refl))
+        pub load-verdict : (f : Fault) → IsVerdict (subject_of (part memory t) text size) f → IsServed t old memory (Load t text size) (Refused f) old memory
+        load-verdict f (inl (lacks, well)) = load-tried f (λ x tenant owned. LoadHappens.out_of_memory well (ap Refused lacks, refl))
         load-verdict f (inr (refusal, is, inl malformed)) = load-tried f (λ x tenant owned. LoadHappens.malformed refusal malformed (ap Refused is, refl))
         load-verdict f (inr (refusal, is, inr (well, unlawful))) =
             load-tried f (λ x tenant owned. LoadHappens.unlawful well refusal (subst (λ o. IsRefusal (subject_of o text size) refusal) owned unlawful) (ap Refused is, refl))
@@ -181,7 +181,7 @@ module _ (t : ℕ) (old : TenantView) (memory : MemoryState) (text : List ℕ) (
               verified = All-set (λ entry_index. IfSome entry_index IsVerified) old.programs k (Some v) verified stands.verified;
               shapes = All-set (λ entry_index. IfSome entry_index Fitting) old.programs k (Some v) have stands.shapes;
               run = run-closed old.programs (set old.programs k (Some v)) old.run tenant.run idle stands.run;
-              fulfils = record { maps = stands.fulfils.maps; entry_indices = length-set tenant.programs k (Some p) ∙ stands.fulfils.entry_indices; run = stands.fulfils.run; same = stands.fulfils.same };
+              fulfils = record { maps = stands.fulfils.maps; eight = length-set tenant.programs k (Some p) ∙ stands.fulfils.eight; run = stands.fulfils.run; same = stands.fulfils.same };
             }
 
         -- a text that is accepted

@@ -19,7 +19,7 @@ use Rattle.tenant_runs.specs.Fulfilment.{sharing_fulfilled}
 use Rattle.tenant_runs.specs.UnderWay.{IsUnderWay, IsAsking, part_with_have}
 use Rattle.host_core.specs.declared.tenant.OpenRun.{OpenRun as KeptRun}
 use Rattle.host_core.specs.Happens.{sharing_after}
-use Rattle.host_core.specs.Stretches.{IsUnderWayAt, HasAdvanced, AreMadeFrom, went_on, answered, ended, needed_in, part_in, reserved_of}
+use Rattle.host_core.specs.Batches.{IsUnderWayAt, HasAdvanced, AreMadeFrom, went_on, answered, ended, needed_in, part_in, reserved_of}
 use Rattle.host_core.proofs.Advances.{needed_of_part, part_recorded, answer_made}
 
 -- a run that neither went on nor ended asks something

@@ -188,7 +188,7 @@ begun_stands k old tenant context run v found begun none_made stands = record {
     state = begun tenant.maps stands.fulfils.maps (each-at (λ (a : Accepted). HaveShapes (named_shapes a.subject) tenant.maps) old k v stands.shapes found);
     steps = none_made;
   };
-  fulfils = record { maps = stands.fulfils.maps; entry_indices = stands.fulfils.entry_indices; run = record { reached = refl; steps = omega arith }; same = refl };
+  fulfils = record { maps = stands.fulfils.maps; eight = stands.fulfils.eight; run = record { reached = refl; steps = omega arith }; same = refl };
 }
 
 -- a run that begins

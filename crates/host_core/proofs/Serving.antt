@@ -134,7 +134,7 @@ with_named_maps old tenant maps idle stands flat have = record {
   verified = stands.verified;
   shapes = have;
   run = stands.run;
-  fulfils = record { maps = flat; entry_indices = stands.fulfils.entry_indices; run = stands.fulfils.run; same = if_idle tenant.run (λ r. maps ≡ r.state.memory.maps) idle };
+  fulfils = record { maps = flat; eight = stands.fulfils.eight; run = stands.fulfils.run; same = if_idle tenant.run (λ r. maps ≡ r.state.memory.maps) idle };
 }
 
 -- a tenant without an open run, whose maps became others that have the shapes that its programs use

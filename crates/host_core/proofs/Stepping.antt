@@ -38,7 +38,7 @@ use Rattle.host_core.specs.declared.tenant.OpenRun.{OpenRun as KeptRun}
 use Rattle.host_core.specs.World.{Beginning, started, found_open, Leads, OpenRun, Tenant, System, IsTenant, IsOpenRun, IsCovered, accepted_of, pins_of, reserve_of, reserved_in, owned_by}
 use Rattle.host_core.specs.Happens.{Answers, StepHappens, Happens, IsPromised, IsPromisedOf, AllHappen, StepsHappen, changed_system, sharing_after}
 use Rattle.host_core.specs.HostView.{TenantView, EachProgram, StandsForRun, StandsForAnyRun, StandsForTenant, StandsForMemory, IsKept, HasMadeSteps, steps_of}
-use Rattle.host_core.specs.Stretches.{IsUnderWayAt, KeepsPins, needed_in, HasAdvanced, HasDone, AreMade, AreMadeFrom, IsOn, IsAnswered, IsEnded, went_on, answered, ended, part_in, reserved_of}
+use Rattle.host_core.specs.Batches.{IsUnderWayAt, KeepsPins, needed_in, HasAdvanced, HasDone, AreMade, AreMadeFrom, IsOn, IsAnswered, IsEnded, went_on, answered, ended, part_in, reserved_of}
 use Rattle.host_core.proofs.Worlds.{slice_get-set, OfTenant-there, changed_system-same, changed_system-twice}
 use Rattle.host_core.proofs.Memories.{owned-idle}
 use Rattle.host_core.proofs.Systems.{part_stands, reserved_stands, covered, covered-step, changed_stands}
@@ -308,7 +308,7 @@ stood-on programs kept after tenant r n u stood run same_program stands shapes c
       verified = stood.verified;
       shapes = all_have_alike programs tenant.maps u.memory.maps shapes stood.shapes;
       run = record { accepted = run.accepted; numbered = ap (slice_get programs) same_program ∙ run.numbered; program = run.program; state = stands; steps = counted };
-      fulfils = record { maps = stands.state.maps; entry_indices = stood.fulfils.entry_indices; run = record { reached = reached; steps = below }; same = refl };
+      fulfils = record { maps = stands.state.maps; eight = stood.fulfils.eight; run = record { reached = reached; steps = below }; same = refl };
     }
 
 -- what belongs to it
@@ -418,7 +418,7 @@ module _ (programs : List (Option Accepted)) (kept : KeptRun) (t n : ℕ) (befor
           verified = stood.verified;
           shapes = all_have_alike programs tenant.maps final shapes stood.shapes;
           run = tt;
-          fulfils = record { maps = did.flat; entry_indices = stood.fulfils.entry_indices; run = tt; same = tt };
+          fulfils = record { maps = did.flat; eight = stood.fulfils.eight; run = tt; same = tt };
         } in
         let owned = owned-idle later t next refl (ap (λ (o : TenantPart). o.maps) did.owned) (ap (λ (o : TenantPart). o.reserve) did.owned) (ap (λ (o : TenantPart). o.running) did.owned) in
         let stands' = changed_stands before later x t tenant next sharing sharing stands there sizes.tenants sizes.frames reads' stood'.fulfils.maps.eight owned others refl in

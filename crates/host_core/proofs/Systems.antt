@@ -15,7 +15,7 @@ use Rattle.page_table.specs.State.{MemoryState, part, have_of, unreserved_tenant
 use Rattle.host_core.specs.World.{Tenant, World, System, pins_of, reserve_of, owned_by, have_in, reserved_from, reserved_in, IsCovered}
 use Rattle.host_core.specs.Happens.{changed_system}
 use Rattle.host_core.specs.HostView.{StandsForMemory, recorded_of, recorded_in}
-use Rattle.host_core.specs.Stretches.{KeepsPins}
+use Rattle.host_core.specs.Batches.{KeepsPins}
 use Rattle.host_core.proofs.Memories.{IsEight, part_all, length_all, length-recorded, recorded-at, owned-now, memory_of_parts}
 use Rattle.host_core.proofs.Worlds.{slice_get-set, slice_get-set-other}
 

@@ -91,7 +91,7 @@ load_refusal tenant size = first_refusal (
 pub data LoadHappens (x : System) (t : ℕ) (tenant : Tenant) (p : Subject) (reply : Reply) (x' : System) : Type 0 where
   malformed : (refusal : Refusal) → IsFirstFault p.text refusal → Answers x (Refused (fault.Program refusal)) reply x' → LoadHappens x t tenant p reply x'
   unlawful : IsWellFormed p.text → (refusal : Refusal) → IsRefusal p refusal → Answers x (Refused (fault.Program refusal)) reply x' → LoadHappens x t tenant p reply x'
-  refusal_or_out_of_memory : IsWellFormed p.text → Answers x (Refused fault.OutOfMemory) reply x' → LoadHappens x t tenant p reply x'
+  out_of_memory : IsWellFormed p.text → Answers x (Refused fault.OutOfMemory) reply x' → LoadHappens x t tenant p reply x'
   loaded : IsWellFormed p.text → (table : Table) → IsTightTable p table → (k : ℕ) → free_program tenant ≡ Some k
       → Leaves x t (record tenant { programs = slice_set tenant.programs k (Some p) }) x.sharing (Program k) reply x' → LoadHappens x t tenant p reply x'
 

@@ -1,4 +1,4 @@
 pub mod World
 pub mod Happens
 pub mod HostView
-pub mod Stretches
+pub mod Batches

@@ -95,7 +95,7 @@ FoundIsOpen = (r : OpenRun) → r.beginning ≡ found_open r.state r.steps → r
 -- a tenant has eight entries for programs, and with an open run it has the maps of that run's state
 pub record IsTenant (tenant : Tenant) : Type 0 where
   pub maps : AreFlatMaps tenant.maps
-  pub entry_indices : length tenant.programs ≡ 8
+  pub eight : length tenant.programs ≡ 8
   pub run : IfSome tenant.run IsOpenRun
   pub same : IfSome tenant.run (λ r. tenant.maps ≡ r.state.memory.maps)
 

@@ -51,15 +51,15 @@ impl Host {
         ensures refused { IfErr result (RefusesMemory frames tenants options) }
     {
         let memory = Memory::new(alloc, frames, tenants, options)?;
-        let Ok(mut entry_indices) = Vec::with_capacity(alloc, tenants as usize) else {
+        let Ok(mut entries) = Vec::with_capacity(alloc, tenants as usize) else {
             return Err(Fault::OutOfMemory);
         };
         for _ in 0..tenants {
-            entry_indices.push_reserved(Tenant::new());
+            entries.push_reserved(Tenant::new());
         }
         Ok(Host {
             alloc,
-            tenants: entry_indices,
+            tenants: entries,
             memory,
         })
     }

@@ -357,7 +357,7 @@ impl OpenRun {
     ghost use Rattle.page_table.specs.State.{part};
     ghost use Rattle.page_table.specs.Changes.{OtherTenantsUnchanged};
     ghost use Rattle.tenant_runs.specs.Fulfilment.{KeepsSizes};
-    ghost use Rattle.host_core.specs.Stretches.{IsUnderWayAt, HasMadeStep, HasAdvanced};
+    ghost use Rattle.host_core.specs.Batches.{IsUnderWayAt, HasMadeStep, HasAdvanced};
     ghost use Rattle.host_core.specs.declared.tenant.OpenRun.{OpenRun as KeptRun};
 
     /// Makes one step: what the run returned, if it ended with it. What is reserved afterwards is what the rest of the run may

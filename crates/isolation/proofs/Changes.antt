@@ -53,7 +53,7 @@ create x x' t shape mergeable reply tenant h = left x x' t reply _ _ _ h.2 refl
 load : (x x' : System) (t : ℕ) (reply : Reply) (tenant : Tenant) (p : Subject) → LoadHappens x t tenant p reply x' → Left x (Some t) reply x'
 load x x' t reply tenant p (LoadHappens.malformed refusal is h) = inl h.1
 load x x' t reply tenant p (LoadHappens.unlawful well refusal is h) = inl h.1
-load x x' t reply tenant p (LoadHappens.refusal_or_out_of_memory well h) = inl h.1
+load x x' t reply tenant p (LoadHappens.out_of_memory well h) = inl h.1
 load x x' t reply tenant p (LoadHappens.loaded well table tight k free h) = left x x' t reply _ _ _ h refl
 
 begin : (x x' : System) (t k : ℕ) (context : List ℕ) (reply : Reply) (tenant : Tenant) → BeginHappens x t tenant k context reply x' → Left x (Some t) reply x'

@@ -49,8 +49,8 @@ refused_alike t x y x' y' tenant reply other refusal further there found same h 
 
 loads : (t : ℕ) (x y x' y' : System) (tenant : Tenant) (p : Subject) (reply other : Reply) → slice_get x.world t ≡ Some tenant → slice_get y.world t ≡ Some tenant
     → LoadHappens x t tenant p reply x' → LoadHappens y t tenant p other y' → Alike t reply other x' y'
-loads t x y x' y' tenant p reply other there found (LoadHappens.refusal_or_out_of_memory well h) happens = inl (ap is_scarce h.0)
-loads t x y x' y' tenant p reply other there found happens (LoadHappens.refusal_or_out_of_memory well h) = inr (inl (ap is_scarce h.0))
+loads t x y x' y' tenant p reply other there found (LoadHappens.out_of_memory well h) happens = inl (ap is_scarce h.0)
+loads t x y x' y' tenant p reply other there found happens (LoadHappens.out_of_memory well h) = inr (inl (ap is_scarce h.0))
 loads t x y x' y' tenant p reply other there found (LoadHappens.malformed refusal is h) (LoadHappens.malformed further also k) =
     refused_alike t x y x' y' tenant reply other refusal further there found (one_fault p.text further refusal also is) h k
 loads t x y x' y' tenant p reply other there found (LoadHappens.unlawful well refusal is h) (LoadHappens.unlawful formed further also k) =

@@ -32,7 +32,7 @@ take_wins id me s r home there =
       memory = r.memory;
       apart = Apart-set s.views id me.0 new there (λ t has. has) r.apart;
       agree = Each-set s.views id new (λ i view. RemembersParts view r.memory) (λ t has. refl) (λ i view ne at. r.agree i view at);
-      entry_index = inr (record {
+      home_or_out = inr (record {
         word = refl;
         slot = refl;
         holder = id;
@@ -68,7 +68,7 @@ pub take_keeps : (slots id home out : ℕ) (me : Me (Option MemoryState) SeatVie
 take_keeps slots id home out me is_home is_out =
     subst (λ (h : ℕ). Allows IsInTurn slots id me 0 (λ n. either (n == h) out n) (Takes (step 1 0 h out none) me)) (sym is_home)
     (subst (λ (o : ℕ). Allows IsInTurn slots id me 0 (λ n. either (n == 0) o n) (Takes (step 1 0 0 o none) me)) (sym is_out)
-    (λ s r len there small. ⊎_elim (λ home. take_wins id me s r home there) (λ out. take_loses id me s r out there) r.entry_index))
+    (λ s r len there small. ⊎_elim (λ home. take_wins id me s r home there) (λ out. take_loses id me s r out there) r.home_or_out))
 
 -- the value of the slot that a seat took last
 abbrev slot_of : List (ℕ × Option MemoryState) → Option MemoryState
@@ -104,7 +104,7 @@ give_home id view memory s r out there holds spares =
           spares t (λ has'. ne (r.apart i other at id view there t has has'))
           ∙ ap (λ (m : MemoryState). part m t) taken
           ∙ r.agree i other at t has);
-      entry_index = inl (record {
+      home_or_out = inl (record {
         word = refl;
         slot = refl;
         unheld = Each-set s.views id new (λ i other. other.holds ≡ false) refl (λ i other ne at. false_of other.holds (λ held. ne (out.alone i other at held ∙ sym mine)));
@@ -126,7 +126,7 @@ give_keeps slots id home me memory is_home carried holds spares =
     ⊎_elim
     (λ home. absurd (cc (home.unheld id me.0 there, holds)))
     (λ out. give_home id me.0 memory s r out there holds spares)
-    r.entry_index))
+    r.home_or_out))
 
 -- a seat that holds nothing may be cut in two
 pub split_keeps : (id : ℕ) (old left right : SeatView) → left.seen ≡ old.seen → right.seen ≡ old.seen
@@ -167,7 +167,7 @@ split_keeps id old left right seen seen' idle idle_left idle_right less more cut
       memory = r.memory;
       apart = apart;
       agree = agree;
-      entry_index = ⊎_elim (λ h. inl (home h)) (λ o. inr (out o)) r.entry_index;
+      home_or_out = ⊎_elim (λ h. inl (home h)) (λ o. inr (out o)) r.home_or_out;
     }
 
 -- where the word is 0 at the end, a memory in the slot has the seat's own parts
@@ -184,4 +184,4 @@ closes id view words slots memory end home at =
     (λ o.
     let one : some 1 ≡ some 0 = ap (λ (ws : List ℕ). get_elem? ws 0) (sym o.word ∙ end.2) ∙ home in
     absurd (omega (arith, some-injective 1 0 one)))
-    r.entry_index
+    r.home_or_out

@@ -38,7 +38,7 @@ pub record IsInTurn (s : State (Option MemoryState) SeatView) : Type 0 where
   pub memory : MemoryState
   pub apart : Apart s.views
   pub agree : Each s.views (λ i view. RemembersParts view memory)
-  pub entry_index : IsHome s memory ⊎ IsOut s memory
+  pub home_or_out : IsHome s memory ⊎ IsOut s memory
 
 -- what a take gives: where it found the memory home it wins, and its seat holds a memory that has
 -- its own parts; else it loses, and nothing changes

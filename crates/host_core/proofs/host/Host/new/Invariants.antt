@@ -6,7 +6,7 @@ use Rattle.host_core.proofs.host.Host.new.Given as goal
 
 abbrev pub invariant-loop : goal.invariant-loop
 invariant-loop l = record {
-  room : vec_capacity l.entry_indices ≡ l.tenants;
-  given : vec_len l.entry_indices ≡ l.counter;
-  new : AllZip StandsForTenant l.entry_indices.items (replicate l.counter new_tenant);
+  room : vec_capacity l.entries ≡ l.tenants;
+  given : vec_len l.entries ≡ l.counter;
+  new : AllZip StandsForTenant l.entries.items (replicate l.counter new_tenant);
 }

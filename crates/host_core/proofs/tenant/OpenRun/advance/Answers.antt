@@ -13,7 +13,7 @@ use Rattle.tenant_runs.specs.Fulfilment.{KeepsSizes}
 use Rattle.tenant_runs.specs.Storing.{maps_of_part, HasStoreFrames, HasStored}
 use Rattle.tenant_runs.proofs.OnMaps.{Keeps}
 use Rattle.tenant_runs.proofs.Rooms.{record_keeps, ended_keeps, keeps_twice}
-use Rattle.host_core.specs.Stretches.{IsUnderWayAt, HasAdvanced}
+use Rattle.host_core.specs.Batches.{IsUnderWayAt, HasAdvanced}
 use Rattle.host_core.proofs.Advances.{IsStarted, program_is, started, stands_at, kept_on, private_room, private_advanced, ended_advanced, asked_advanced, asked_at, asking_at}
 use Rattle.host_core.proofs.tenant.OpenRun.advance.Goals as goal
 use Rattle.host_core.proofs.tenant.OpenRun.advance.Goals.{After-advance_on}

@@ -4,7 +4,7 @@ use Rattle.interp.specs.Machine.{MachineState}
 use Rattle.interp.specs.StandsFor.{Running, StandsFor, Follows}
 use Rattle.verifier.specs.Verified.{Accepted}
 use Rattle.page_table.specs.State.{part}
-use Rattle.host_core.specs.Stretches.{IsUnderWayAt, HasMadeStep, HasAdvanced}
+use Rattle.host_core.specs.Batches.{IsUnderWayAt, HasMadeStep, HasAdvanced}
 use Rattle.host_core.proofs.Advances.{program_is}
 use Rattle.host_core.proofs.OneStep.{step_following, none_left, step_private}
 use Rattle.host_core.proofs.tenant.OpenRun.step.Goals as goal

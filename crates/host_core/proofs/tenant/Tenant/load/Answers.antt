@@ -4,7 +4,7 @@ use Rattle.host_types.specs.declared.fault.Fault.TheVariants.{TooManyPrograms, B
 use Rattle.page_table.specs.State.{part}
 use Rattle.verifier.specs.Subject.{IsContextSize}
 use Rattle.verifier.specs.Verified.{Accepted}
-use Rattle.host_calls.specs.Programs.{IsJudgement, subject_of, subject_for}
+use Rattle.host_calls.specs.Programs.{IsVerdict, subject_of, subject_for}
 use Rattle.host_types.specs.declared.event.Event.TheVariants.{Load}
 use Rattle.host_core.specs.declared.reply.Reply.TheVariants.{Program, Refused}
 use Rattle.host_core.specs.HostView.{TenantView, IsServed}
@@ -44,8 +44,8 @@ returns-in_err-program c =
     let room : first_free_of kept ≡ Some c.in-Some.entry_index = lent-free kept c.as_slice.result.now c.first_free.result c.as_slice.ensures c.first_free.ensures.first ∙ c.in-Some.is in
     let fits : IsContextSize c.args.context_size = c.is_context_size.ensures.0 (c.if-not-is_context_size.false) in
     let shapes = c.as_slice-2.ensures ∙ c.host_shapes-shapes.ensures.shapes in
-    let verdict : IsJudgement (subject_of (part c.args.memory.now c.args.number) c.args.text.now c.args.context_size) c.in_err-program.field-0.0 =
-    subst (λ listed. IsJudgement (subject_for listed c.args.text.now c.args.context_size) c.in_err-program.field-0.0) shapes c.in_err-program.ensures.refused in
+    let verdict : IsVerdict (subject_of (part c.args.memory.now c.args.number) c.args.text.now c.args.context_size) c.in_err-program.field-0.0 =
+    subst (λ listed. IsVerdict (subject_for listed c.args.text.now c.args.context_size) c.in_err-program.field-0.0) shapes c.in_err-program.ensures.refused in
     let served = load-verdict c.args.number kept c.args.memory.now c.args.text.now c.args.context_size idle c.in-Some.entry_index room fits c.in_err-program.field-0.0 verdict in
     let into_reply = subst (λ seen. IsServed c.args.number seen c.args.memory.now (Load c.args.number c.args.text.now c.args.context_size) (Refused c.in_err-program.field-0.0) seen c.args.memory.now) c.self.view_is served in
     let p = err_from_is_err_and c.from_residual.result c.from_residual.ensures.1 in

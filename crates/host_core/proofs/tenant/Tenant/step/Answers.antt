@@ -3,7 +3,7 @@ use Rattle.host_types.specs.declared.fault.Fault.TheVariants.{NoRun}
 use Rattle.page_table.specs.State.{part}
 use Rattle.host_core.specs.declared.reply.Reply.TheVariants.{Ended, Refused}
 use Rattle.host_core.specs.HostView.{TenantView, HasMadeSteps, IsKept}
-use Rattle.host_core.specs.Stretches.{IsUnderWayAt}
+use Rattle.host_core.specs.Batches.{IsUnderWayAt}
 use Rattle.host_core.proofs.Making.{served-stepped, served-last}
 use Rattle.host_core.proofs.Stepping.{made-no_run, made-steps, made-last_step, advanced-some, under-way-kept, kept-open, made-open}
 use Rattle.host_core.proofs.tenant.Tenant.step.Goals as goal

@@ -179,8 +179,8 @@ fn knows_registers(knowledge: &Knowledge, slot: u32, known: &Description) -> boo
 
 /// Whether this is known of the stack at a slot.
 fn knows_stack(knowledge: &Knowledge, slot: u32, known: &Description) -> bool {
-    for entry_index in 0..64 {
-        if knowledge.stack(slot, entry_index) != known.slot(entry_index) {
+    for entry in 0..64 {
+        if knowledge.stack(slot, entry) != known.slot(entry) {
             return false;
         }
     }

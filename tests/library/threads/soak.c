@@ -1,0 +1,92 @@
+/* Sixteen threads, each with a host of its own and that with sixteen tenants: a million runs in all. Each tenant counts its runs in a map, while
+ * the scanner of its host merges what is equal; each run's answer and each value is to be the tenant's own count. */
+#include "../check.h"
+
+#include <pthread.h>
+
+enum { THREADS = 16, TENANTS = 16, RUNS = 62500 };
+
+/* What a thread counted that was wrong. */
+struct worker {
+    pthread_t thread;
+    unsigned wrong;
+};
+
+/* The bytes of a text in hex, spaces left out: how many. */
+static size_t text_of(const char *hex, uint8_t *bytes)
+{
+    size_t length = 0;
+    unsigned byte;
+    int read;
+    while (sscanf(hex, " %2x%n", &byte, &read) == 1) {
+        bytes[length++] = (uint8_t)byte;
+        hex += read;
+    }
+    return length;
+}
+
+/* A host whose tenants have a map and the counter each: how many calls failed. */
+static unsigned open_counters(struct bpf_host *host)
+{
+    struct bpf_host_options options = BPF_HOST_OPTIONS;
+    struct bpf_host_refused refused;
+    uint8_t text[256];
+    size_t length = text_of(COUNTER, text);
+    uint32_t made;
+    unsigned wrong = bpf_host_new(64, TENANTS, &options, host) != 0;
+    for (uint32_t tenant = 0; tenant < TENANTS; tenant++) {
+        wrong += bpf_host_create_map(host, tenant, 8, 1, true, &made, &refused) != 0;
+        wrong += bpf_host_load(host, tenant, text, length, 0, &made, &refused) != 0;
+    }
+    return wrong;
+}
+
+/* A run of a tenant, its latest of so many: whether it is wrong. */
+static unsigned run_wrong(struct bpf_host *host, uint32_t tenant, uint64_t count)
+{
+    struct bpf_host_run run = {0, 0};
+    struct bpf_host_refused refused;
+    uint8_t none[1] = {0};
+    uint32_t code = bpf_host_run(host, tenant, 0, none, 0, &run, &refused);
+    return code != 0 || run.ret != count || run.steps != 11;
+}
+
+/* A tenant's value: whether it isn't its count. */
+static unsigned value_wrong(struct bpf_host *host, uint32_t tenant, uint64_t count)
+{
+    uint64_t value = 0;
+    uint32_t code = bpf_host_lookup(host, tenant, 0, 0, (uint8_t *)&value, sizeof value);
+    return code != 0 || value != count;
+}
+
+static void *work(void *given)
+{
+    struct worker *worker = given;
+    struct bpf_host host = {0};
+    struct bpf_host_counters after;
+    worker->wrong = open_counters(&host);
+    for (uint32_t number = 0; number < RUNS; number++) {
+        worker->wrong += run_wrong(&host, number % TENANTS, number / TENANTS + 1);
+        if (number % 64 == 0)
+            worker->wrong += bpf_host_visit(&host, 5, &after) != 0;
+    }
+    for (uint32_t tenant = 0; tenant < TENANTS; tenant++)
+        worker->wrong += value_wrong(&host, tenant, RUNS / TENANTS + (tenant < RUNS % TENANTS));
+    bpf_host_free(&host);
+    return NULL;
+}
+
+int main(void)
+{
+    struct worker workers[THREADS];
+    unsigned wrong = 0;
+    for (int i = 0; i < THREADS; i++)
+        if (pthread_create(&workers[i].thread, NULL, work, &workers[i]) != 0)
+            return 2;
+    for (int i = 0; i < THREADS; i++) {
+        pthread_join(workers[i].thread, NULL);
+        wrong += workers[i].wrong;
+    }
+    printf("%d threads, %d runs: %u wrong\n", THREADS, THREADS * RUNS, wrong);
+    return wrong != 0;
+}
