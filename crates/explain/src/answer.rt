@@ -118,16 +118,16 @@ fn show<W: Write>(
     view: &View<'_>,
     output: &mut W,
 ) -> Result<u8, FileFault> {
-    let mut verdict = Vec::new(alloc);
+    let mut line = Vec::new(alloc);
     let mut meant = Vec::new(alloc);
     let status = check(
         alloc,
         hex,
         view.asked.shapes.as_slice(),
         view.asked.context,
-        &mut verdict,
+        &mut line,
         &mut meant,
     )?;
-    written(write_view(alloc, output, view, verdict.as_slice(), meant.as_slice()))?;
+    written(write_view(alloc, output, view, line.as_slice(), meant.as_slice()))?;
     Ok(status)
 }

@@ -20,19 +20,19 @@ pub struct View<'a> {
     pub note: &'a [u8],
 }
 
-/// Writes what `check` answers of a program, its listing, and what a refusal means.
+/// Writes the line of `check` for a program, its listing, and what a refusal means.
 pub fn write_view<W: Write>(
     alloc: Global,
     output: &mut W,
     view: &View<'_>,
-    verdict: &[u8],
+    line: &[u8],
     meant: &[u8],
 ) -> io::Result<()> {
     let listing = Listing::of(alloc, &view.checked, view.beside);
     if view.asked.html {
-        write_html(alloc, output, view, verdict, meant, listing.as_ref())?;
+        write_html(alloc, output, view, line, meant, listing.as_ref())?;
     } else {
-        output.write_all(verdict)?;
+        output.write_all(line)?;
         write_text(output, view, meant, listing.as_ref())?;
     }
     output.flush()
@@ -76,7 +76,7 @@ fn write_html<W: Write>(
     alloc: Global,
     output: &mut W,
     view: &View<'_>,
-    verdict: &[u8],
+    line: &[u8],
     meant: &[u8],
     listing: Option<&Listing<'_>>,
 ) -> io::Result<()> {
@@ -85,8 +85,8 @@ fn write_html<W: Write>(
     let page = Page {
         alloc,
         program: program.as_str(),
-        verdict: text_of(verdict),
-        is_accepted: verdict.starts_with(b"accepted"),
+        verdict: text_of(line),
+        is_accepted: line.starts_with(b"accepted"),
         said: text_of(meant),
         note: text_of(view.note),
         shapes: asked.shapes.as_slice(),

@@ -1,2 +1,3 @@
 pub mod Flowed
+pub mod InOrder
 pub mod Read

@@ -1,9 +1,12 @@
 //! The listing of a text: its rows, and what is shown at each.
 
+ghost use Rattle.std.specs.Prelude.{ℕ, ◌<◌, ◌^◌, length, IfOk};
+ghost use Rattle.listing.specs.Rows.{AreRows};
+
 use crate::knowledge::Knowledge;
 use crate::listed::{Known, Listed};
 use crate::location::{Differing, Fact, Location, STACK_SLOTS};
-use crate::rows::{Item, Row};
+use crate::rows::{Item, Row, Slot, rows_of};
 use crate::seen::Seen;
 use bpf_decode::{FRAME_POINTER, Insn};
 use findings::{CheckedText, Kinds, registers_read};
@@ -76,39 +79,33 @@ impl<'a> Listing<'a> {
         u32::try_from(self.checked.text.len() / 8).unwrap_or(u32::MAX)
     }
 
-    /// The rows, up to the slot for which the text is refused, if it is. A text that has no whole slots has none.
-    pub fn rows(&self) -> Result<Vec<Row>, AllocError> {
-        let mut rows = Vec::new(self.alloc);
+    /// The rows, up to the slot for which the text is refused, if it is: each slot in one of them. A text that has no whole
+    /// slots has none.
+    pub fn rows(&self) -> Result<Vec<Row>, AllocError>
+        ensures { IfOk result (λ rows. (end : ℕ) × AreRows rows.items 0 end) }
+    {
+        let slots = self.slots_listed()?;
+        rows_of(self.alloc, slots.as_slice())
+    }
+
+    /// What the slots are that are listed.
+    fn slots_listed(&self) -> Result<Vec<Slot>, AllocError>
+        ensures { IfOk result (λ slots. length slots.items < 2 ^ 32) }
+    {
+        let mut slots = Vec::new(self.alloc);
         let mut begins = true;
         for slot in 0..self.all_known.listed(self.slots()) {
             let Some(insn) = self.insn(slot) else {
                 break;
             };
-            self.push_row(&mut rows, slot, begins)?;
+            slots.push(match (self.is_folded(slot), begins) {
+                (true, _) => Slot::Folded,
+                (false, true) => Slot::First,
+                (false, false) => Slot::SecondHalf,
+            })?;
             begins = !begins || insn.slots() == 1;
         }
-        Ok(rows)
-    }
-
-    /// Adds the row of a slot, or the slot to the row of those that are left out before it.
-    fn push_row(&self, rows: &mut Vec<Row>, slot: u32, begins: bool) -> Result<(), AllocError> {
-        if !self.is_folded(slot) {
-            rows.push(if begins {
-                Row::Instruction(slot)
-            } else {
-                Row::SecondHalf(slot)
-            })?;
-            return Ok(());
-        }
-        if let Some(Row::Folded { last, .. }) = rows.last_mut() {
-            *last = slot;
-            return Ok(());
-        }
-        rows.push(Row::Folded {
-            first: slot,
-            last: slot,
-        })?;
-        Ok(())
+        Ok(slots)
     }
 
     /// Whether a slot is left out.

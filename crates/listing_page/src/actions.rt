@@ -10,6 +10,9 @@ let marked = null;
 let current = -1;
 let rowHeight = 30;
 let isDue = false;
+/** The slots that links led away from, and whether the next one is led back to. */
+const trail = [];
+let isReturn = false;
 
 const list = make("div", "list");
 const arrows = document.createElementNS(SVG, "svg");
@@ -39,7 +42,8 @@ function indexAt(y) {
 
 function makeRow(index) {
     const row = rows[index];
-    const names = ["row", row.isGap && "gap", row.last !== undefined && !row.isGap && "folded", row.refused && "refused", row.unreached && "unreached"];
+    const isFolded = row.last !== undefined && !row.isGap;
+    const names = ["row", row.isGap && "gap", isFolded && "folded", row.refused && "refused", row.unreached && "unreached"];
     const element = make("div", names.filter(name => name).join(" "), null, makeLine(row));
     element.dataset.index = index;
     element.id = "row-" + index;
@@ -114,15 +118,18 @@ function makeArrow(jump, top, height, width) {
     const to = y(jump.to) - (bend > 0 ? 3 : -3);
     const step = Math.min(8, (width - 22) / usedLanes);
     const x = width - 16 - step * (jump.lane + 1);
-    const lines = `M${width - 4},${from}H${x + 5}Q${x},${from} ${x},${from + bend}V${to - bend}Q${x},${to} ${x + 5},${to}H${width - 5}`;
+    const turn = `H${x + 5}Q${x},${from} ${x},${from + bend}V${to - bend}Q${x},${to} ${x + 5},${to}`;
+    const lines = `M${width - 4},${from}${turn}H${width - 5}`;
+    const head = `M${width - 9},${to - 4}L${width - 3},${to}L${width - 9},${to + 4}Z`;
     const link = document.createElementNS(SVG, "a");
-    const names = [jump.isAlways ? "always" : "branch", jump.to < jump.from && "back", (jump.from === current || jump.to === current) && "near"];
+    const isNear = jump.from === current || jump.to === current;
+    const names = [jump.isAlways ? "always" : "branch", jump.to < jump.from && "back", isNear && "near"];
     link.setAttribute("class", names.filter(name => name).join(" "));
     link.setAttribute("href", "#slot-" + rows[jump.to].slot);
     link.setAttribute("tabindex", "-1");
     const title = document.createElementNS(SVG, "title");
     title.textContent = "slot " + rows[jump.from].slot + " jumps to " + rows[jump.from].jump;
-    link.append(title, makePath("wide", lines), makePath("drawn", lines), makePath("head", `M${width - 9},${to - 4}L${width - 3},${to}L${width - 9},${to + 4}Z`));
+    link.append(title, makePath("wide", lines), makePath("drawn", lines), makePath("head", head));
     return link;
 }
 
@@ -142,6 +149,7 @@ function drawOverview() {
     const top = bar.getBoundingClientRect().bottom;
     const height = Math.max(1, window.innerHeight - top);
     overview.style.top = top + "px";
+    overview.style.height = height + "px";
     overview.width = 16;
     overview.height = height;
     const context = overview.getContext("2d");
@@ -205,7 +213,7 @@ function toggle(index) {
     draw();
 }
 
-/** Goes to a slot, which becomes a part of the address, so that the browser leads back. */
+/** Goes to a slot, which becomes a part of the address, so that the browser leads back too. */
 function go(slot) {
     if (location.hash === "#slot-" + slot) followHash();
     else location.hash = "slot-" + slot;
@@ -213,7 +221,17 @@ function go(slot) {
 
 function followHash() {
     const index = indexOfSlot.get(Number(/^#slot-(\d+)$/.exec(location.hash)?.[1]));
-    if (index !== undefined) select(index);
+    if (index === undefined) return;
+    if (current >= 0 && !isReturn) trail.push(rows[current].slot);
+    isReturn = false;
+    select(index);
+    if (rows[index].refused && !opened.has(index)) toggle(index);
+}
+
+function goBack() {
+    if (!trail.length) return;
+    isReturn = true;
+    go(trail.pop());
 }
 
 /** The next refused row, or the one before. */
@@ -244,7 +262,8 @@ function toggleAll() {
 /** Goes to the slot that is asked for, or to the next row that has the text. */
 function find(text) {
     if (/^\d+$/.test(text) && indexOfSlot.has(Number(text))) return go(Number(text));
-    const has = row => row.code?.includes(text) || row.facts?.some((fact, index) => fact !== null && (NAMES[index] + " = " + fact).includes(text));
+    const isKnown = (fact, index) => fact !== null && (NAMES[index] + " = " + fact).includes(text);
+    const has = row => row.code?.includes(text) || row.facts?.some(isKnown);
     const at = rows.findIndex((row, index) => index > current && has(row));
     const index = at < 0 ? rows.findIndex(has) : at;
     if (index < 0 || !text) status.textContent = "nothing is found";
@@ -255,7 +274,7 @@ const KEYS = {
     j: () => move(1), ArrowDown: () => move(1), k: () => move(-1), ArrowUp: () => move(-1),
     Enter: () => toggle(current), " ": () => toggle(current),
     n: () => goToRefusal(1), p: () => goToRefusal(-1),
-    f: () => indexOfSlot.has(rows[current]?.jump) && go(rows[current].jump), b: () => history.back(),
+    f: () => indexOfSlot.has(rows[current]?.jump) && go(rows[current].jump), b: () => goBack(),
     m: () => markNext(), a: () => toggleAll(), "/": () => search.focus(), "?": () => help.showModal(),
     Home: () => select(0), End: () => select(rows.length - 1),
     Escape: () => { mark(null); for (const index of [...opened.keys()]) toggle(index); },
@@ -291,14 +310,17 @@ function makeHeader() {
     const title = data.accepted ? make("span", "badge good", "Accepted") : make("span", "badge bad", "Refused");
     const header = make("header", "", null, make("h1", "", null, title, make("span", "program", data.program)));
     const facts = make("p", "facts", null, make("b", "verdict", data.verdict));
-    if (data.maps.length) facts.append(" · maps " + data.maps.map((shape, map) => map + ": " + shape).join(", "));
-    facts.append(" · context of " + data.context + " bytes", data.lowered ? " · lowered, with the slots of the original" : "");
+    const shapes = data.maps.map((shape, map) => map + ": " + shape);
+    if (shapes.length) facts.append(" \u00b7 maps " + shapes.join(", "));
+    facts.append(" \u00b7 context of " + data.context + " bytes");
+    if (data.lowered) facts.append(" \u00b7 lowered, with the slots of the original");
     header.append(facts);
     const refused = rows[refusals[0]]?.refused;
     if (refused) {
-        const card = make("section", "card", null, make("p", "", null, make("b", "", "Refused " + refused.number + " " + refused.name), " at ",
-            makeLink(rows[refusals[0]].slot, "slot " + rows[refusals[0]].slot), ": ", make("code", "", rows[refusals[0]].code ?? rows[refusals[0]].bytes)));
-        card.append(makeRefusal(refused));
+        const { slot, code, bytes } = rows[refusals[0]];
+        const rule = make("b", "", "Refused " + refused.number + " " + refused.name);
+        const line = make("p", "", null, rule, " at ", makeLink(slot, "slot " + slot), ": ", make("code", "", code ?? bytes));
+        const card = make("section", "card", null, line, makeRefusal(refused));
         if (refusals.length > 1) card.append(makeFurther());
         header.append(card);
     } else if (!data.accepted) {
@@ -324,6 +346,8 @@ function makeButton(text, title, act) {
     return button;
 }
 
+const HEADS = { slot: "slot", origin: data.lowered ? "original" : "", bytes: "bytes", code: "instruction", known: "known before it runs" };
+
 function makeTools() {
     search.placeholder = "Slot or text  ( / )";
     search.setAttribute("aria-label", "Go to a slot, or find a text");
@@ -331,22 +355,35 @@ function makeTools() {
     allButton.setAttribute("aria-pressed", showsAll);
     allButton.addEventListener("click", toggleAll);
     const tools = make("div", "tools", null, status);
-    if (refusals.length) tools.append(makeButton("‹ Refusal", "Previous refusal (p)", () => goToRefusal(-1)), makeButton("Refusal ›", "Next refusal (n)", () => goToRefusal(1)));
+    if (refusals.length) {
+        tools.append(makeButton("\u2039 Refusal", "Previous refusal (p)", () => goToRefusal(-1)));
+        tools.append(makeButton("Refusal \u203a", "Next refusal (n)", () => goToRefusal(1)));
+    }
     tools.append(search, allButton, makeButton("Keys", "What the keys do (?)", () => help.showModal()));
-    const heads = make("div", "heads", null, make("span"), make("span", "slot", "slot"), make("span", "origin", data.lowered ? "original" : ""),
-        make("span", "bytes", "bytes"), make("span", "code", "instruction"), make("span", "", "known before it runs"));
+    const heads = make("div", "heads", null, make("span"));
+    for (const name of ["slot", "origin", "bytes", "code", "known"]) heads.append(make("span", name === "known" ? "" : name, HEADS[name]));
     bar.append(tools, heads);
 }
 
+const HELP = [
+    ["j k \u2193 \u2191", "next and previous slot"],
+    ["Enter", "all that is known there"],
+    ["n p", "next and previous refusal"],
+    ["f b", "follow the jump, and back"],
+    ["m", "mark the next register or stack slot of the row, wherever it stands"],
+    ["a", "all that is known, in each row"],
+    ["/", "go to a slot, or find a text"],
+    ["Home End", "first and last slot"],
+    ["Esc", "close all, mark nothing"],
+];
+const ARROWS = "A dashed arrow is a conditional jump. Hover over a register or a stack slot to see it everywhere.";
+
 function makeHelp() {
     const keys = make("dl");
-    for (const [key, what] of [["j k ↓ ↑", "next and previous slot"], ["Enter", "all that is known there"], ["n p", "next and previous refusal"],
-        ["f b", "follow the jump, and back"], ["m", "mark the next register or stack slot of the row, wherever it stands"], ["a", "all that is known, in each row"],
-        ["/", "go to a slot, or find a text"], ["Home End", "first and last slot"], ["Esc", "close all, mark nothing"]]) {
+    for (const [key, what] of HELP) {
         keys.append(make("dt", "", null, ...key.split(" ").map(name => make("kbd", "", name))), make("dd", "", what));
     }
-    help.append(make("b", "", "Keys"), keys, make("p", "facts", "A dashed arrow is a conditional jump. Hover over a register or a stack slot to see it everywhere."),
-        makeButton("Close", "", () => help.close()));
+    help.append(make("b", "", "Keys"), keys, make("p", "facts", ARROWS), makeButton("Close", "", () => help.close()));
 }
 
 function measure() {
@@ -369,7 +406,6 @@ function begin() {
     page.append(makeHeader());
     if (rows.length) page.append(bar, list, overview);
     page.append(help);
-    for (const index of refusals.slice(0, 1)) opened.set(index, 0);
     document.addEventListener("keydown", onKey);
     list.addEventListener("click", onClick);
     document.addEventListener("mouseover", event => mark(event.target.closest("[data-name]")?.dataset.name ?? null));

@@ -133,15 +133,17 @@ function factOf(row, index) {
 
 function makeChip(row, index) {
     const fact = factOf(row, index);
-    const chip = make("span", "chip " + classOf(fact), null, makeName(NAMES[index], NAMES[index]), fact === "unset" ? " unset" : " = " + fact);
+    const chip = make("span", "chip " + classOf(fact), null, makeName(NAMES[index], NAMES[index]));
+    chip.append(fact === "unset" ? " unset" : " = " + fact);
     chip.title = chip.textContent;
     return chip;
 }
 
 /** What two paths to a slot say of a name, where it isn't the same. */
 function makeDiffers([index, first, firstFrom, other, otherFrom, more]) {
-    const chip = make("span", "chip differs", null, makeName(NAMES[index], NAMES[index]), ": " + first + " from ", makeLink(firstFrom, undefined, "from"),
-        ", " + other + " from ", makeLink(otherFrom, undefined, "from"), more ? ", " + more + " more" : "");
+    const chip = make("span", "chip differs", null, makeName(NAMES[index], NAMES[index]));
+    chip.append(": " + first + " from ", makeLink(firstFrom, undefined, "from"));
+    chip.append(", " + other + " from ", makeLink(otherFrom, undefined, "from"), more ? ", " + more + " more" : "");
     chip.title = "The paths that join here differ: " + chip.textContent;
     return chip;
 }
@@ -192,7 +194,7 @@ function makeLine(row) {
     const line = make("div", "line", null, make("span"));
     if (row.isGap) {
         const are = row.slot === row.last ? "slot " + row.slot + " isn't" : "slots " + row.slot + " to " + row.last + " aren't";
-        line.append(make("span", "note", are + " listed: nothing is known after a refusal"));
+        line.append(make("span", "note", are + " listed: after a refused slot, those that break a rule are"));
     } else if (row.last !== undefined) {
         line.append(make("span", "note", "slots " + row.slot + " to " + row.last + ": further copies of the loop"));
     } else {
@@ -229,16 +231,23 @@ function fieldsOf(row) {
     const byte = at => parseInt(row.bytes.slice(2 * at, 2 * at + 2), 16);
     const offset = (byte(2) | byte(3) << 8) << 16 >> 16;
     const immediate = byte(4) | byte(5) << 8 | byte(6) << 16 | byte(7) << 24;
-    return "opcode 0x" + row.bytes.slice(0, 2) + ", dst " + (byte(1) & 15) + ", src " + (byte(1) >> 4) + ", offset " + offset + ", imm " + immediate;
+    const registers = ", dst " + (byte(1) & 15) + ", src " + (byte(1) >> 4);
+    return "opcode 0x" + row.bytes.slice(0, 2) + registers + ", offset " + offset + ", imm " + immediate;
 }
 
 /** All that is known at a slot. */
 function makePanel(row) {
     const panel = make("div", "panel");
-    if (row.refused) panel.append(make("p", "wrong-text", "Refused " + row.refused.number + " " + row.refused.name), makeRefusal(row.refused));
-    if (row.facts) panel.append(make("div", "cards", null, makeGrid(row, "Registers", 0, REGISTERS), makeGrid(row, "Stack", REGISTERS, NAMES.length)));
+    if (row.refused) {
+        panel.append(make("p", "wrong-text", "Refused " + row.refused.number + " " + row.refused.name), makeRefusal(row.refused));
+    }
+    if (row.facts) {
+        const grids = [makeGrid(row, "Registers", 0, REGISTERS), makeGrid(row, "Stack", REGISTERS, NAMES.length)];
+        panel.append(make("div", "cards", null, ...grids));
+    }
     const list = make("dl");
-    for (const differs of row.differs ?? []) addTerm(list, "Paths differ", makeDiffers(differs));
+    const differing = make("span", "differing", null, ...(row.differs ?? []).map(makeDiffers));
+    if (row.differs?.length) addTerm(list, "Paths differ", differing);
     if (row.from) addTerm(list, "Paths join from", makeLinks(row.from));
     if (row.unreached) addTerm(list, "Not reached", "no path leads here, so the slot isn't checked");
     if (row.frames) addTerm(list, "Frames", "this instruction may take " + row.frames[0] + ", the rest from here on " + row.frames[1]);

@@ -1,7 +1,7 @@
 //! What the page lets run.
 
 /// The SHA-256 of the style in base64. `tools/pages` computes it again.
-pub const STYLE_HASH: &str = "vazOMspp95UTz07sxdkja5X8Gb5ekQIvWbNap6tFY6A=";
+pub const STYLE_HASH: &str = "4y8YLlnEZdPhN64WnEWYaU/6Qe9Lxbkdf7HlOT+8KGM=";
 
 /// The SHA-256 of both parts of the script, one after the other.
-pub const SCRIPT_HASH: &str = "k8EUtBvUF/2fKohtHUcDt7U14SeUSMYKsi3iJ3Rpi74=";
+pub const SCRIPT_HASH: &str = "5giBAsfzI6L1Ef0VEvvRQrV5U5szrAmMHX2f5vI36u8=";

@@ -34,7 +34,8 @@ h1 .program { font: 600 17px var(--mono); overflow-wrap: anywhere; }
 .badge.bad { color: var(--bad); background: var(--bad-bg); }
 .facts { margin: 0; color: var(--dim); }
 .facts b { color: var(--ink); font-weight: 600; }
-.card { margin: 16px 0 0; padding: 14px 18px; border: 1px solid var(--line); border-left: 4px solid var(--bad); border-radius: 8px; background: var(--soft); }
+.card { margin: 16px 0 0; padding: 14px 18px; border: 1px solid var(--line); border-left: 4px solid var(--bad); border-radius: 8px;
+  background: var(--soft); }
 .card.note { border-left-color: var(--warn); }
 .card p { margin: 4px 0; overflow-wrap: anywhere; }
 .card dl, .panel dl { display: grid; grid-template-columns: max-content 1fr; gap: 4px 16px; margin: 8px 0 0; }
@@ -44,13 +45,16 @@ dd { margin: 0; overflow-wrap: anywhere; }
 .further a { display: inline-block; padding: 2px 10px; border-radius: 6px; color: var(--bad); background: var(--bad-bg); font-size: 13px; }
 .bar { position: sticky; top: 0; z-index: 5; border-block: 1px solid var(--line); background: var(--soft); }
 .tools { display: flex; align-items: center; gap: 8px; padding: 7px 28px; }
-.tools .status { flex: 1; min-width: 0; overflow: hidden; color: var(--dim); font-size: 13px; text-overflow: ellipsis; white-space: nowrap; }
-button, input { height: 28px; border: 1px solid var(--line); border-radius: 6px; background: var(--bg); color: var(--ink); font: 13px var(--sans); }
+.tools .status { flex: 1; min-width: 0; overflow: hidden; color: var(--dim); font-size: 13px; text-overflow: ellipsis;
+  white-space: nowrap; }
+button, input { height: 28px; border: 1px solid var(--line); border-radius: 6px; background: var(--bg); color: var(--ink);
+  font: 13px var(--sans); }
 button { padding: 0 10px; cursor: pointer; white-space: nowrap; }
 button:hover { border-color: var(--accent); }
 button[aria-pressed="true"] { border-color: var(--accent); color: var(--accent); background: var(--focus); }
 input { width: 190px; padding: 0 9px; }
-kbd { padding: 0 5px; border: 1px solid var(--line); border-bottom-width: 2px; border-radius: 4px; background: var(--bg); font: 12px var(--mono); }
+kbd { padding: 0 5px; border: 1px solid var(--line); border-bottom-width: 2px; border-radius: 4px; background: var(--bg);
+  font: 12px var(--mono); }
 .heads, .line { display: grid; grid-template-columns: var(--margin) 46px var(--origin, 0) var(--bytes) var(--code) minmax(0, 1fr); }
 .heads { padding: 3px 36px 3px 0; border-top: 1px solid var(--line); color: var(--dim); font-size: 12px; }
 .heads .slot, .heads .origin { text-align: right; }
@@ -72,8 +76,8 @@ kbd { padding: 0 5px; border: 1px solid var(--line); border-bottom-width: 2px; b
 .bytes i { font-style: normal; margin-right: 5px; }
 .code { overflow: hidden; padding-left: 16px; text-overflow: ellipsis; white-space: nowrap; }
 .known { position: relative; display: flex; flex-wrap: wrap; gap: 8px 6px; height: 22px; padding-right: 36px; overflow: hidden; }
-.chip { display: inline-block; max-width: 100%; height: 22px; overflow: hidden; padding: 0 7px; border-radius: 5px; font-size: 12px; line-height: 22px;
-  text-overflow: ellipsis; white-space: nowrap; }
+.chip { display: inline-block; max-width: 100%; height: 22px; overflow: hidden; padding: 0 7px; border-radius: 5px;
+  font: 12px/22px var(--mono); text-overflow: ellipsis; vertical-align: bottom; white-space: nowrap; }
 .number { color: var(--number); background: var(--number-bg); }
 .context { color: var(--context); background: var(--context-bg); }
 .stack { color: var(--stack); background: var(--stack-bg); }
@@ -84,16 +88,19 @@ kbd { padding: 0 5px; border: 1px solid var(--line); border-bottom-width: 2px; b
 .unset, .wrong { color: var(--bad); background: var(--bad-bg); box-shadow: inset 0 0 0 1px var(--bad); }
 .differs { color: var(--warn); background: var(--warn-bg); }
 .chip .from { color: inherit; text-decoration: underline dotted; }
-.more { position: absolute; top: 0; right: 0; height: 22px; color: var(--dim); font-size: 12px; line-height: 22px; }
+.more { position: absolute; top: 0; right: 12px; height: 22px; color: var(--dim); font-size: 12px; line-height: 22px; }
 .name { border-radius: 3px; font-weight: 600; }
 .code .name { font-weight: 400; }
 .same { color: var(--same-ink); background: var(--same); box-shadow: 0 0 0 2px var(--same); }
 .same.set { text-decoration: underline 2px; text-underline-offset: 3px; }
-.panel { margin: 0 12px 8px var(--margin); padding: 10px 16px 14px; border: 1px solid var(--line); border-radius: 8px; background: var(--soft); cursor: auto; }
+.panel { margin: 0 12px 8px var(--margin); padding: 10px 16px 14px; border: 1px solid var(--line); border-radius: 8px;
+  background: var(--soft); cursor: auto; }
 .panel .cards { display: flex; flex-wrap: wrap; gap: 8px 40px; }
 .panel h2 { margin: 4px 0; color: var(--dim); font-size: 12px; font-weight: 600; letter-spacing: .03em; }
 .panel .grid { display: grid; grid-template-columns: max-content max-content; gap: 3px 14px; align-items: center; font: 13px var(--mono); }
+.panel .grid .chip { justify-self: start; }
 .panel .grid.wide { grid-template-columns: repeat(2, max-content max-content); }
+.differing { display: flex; flex-wrap: wrap; gap: 5px 8px; }
 .panel .wrong-text { margin: 0 0 8px; color: var(--bad); }
 .arrows { position: absolute; z-index: 1; top: 0; left: 0; width: var(--margin); overflow: hidden; pointer-events: none; }
 .arrows path { fill: none; stroke: var(--arrow); stroke-width: 1.3; pointer-events: none; }
@@ -104,8 +111,10 @@ kbd { padding: 0 5px; border: 1px solid var(--line); border-bottom-width: 2px; b
 .arrows .back .head { fill: var(--bad); }
 .arrows a:hover .drawn, .arrows .near .drawn { stroke: var(--accent); stroke-width: 2; }
 .arrows a:hover .head, .arrows .near .head { fill: var(--accent); }
-.overview { position: fixed; right: 0; bottom: 0; width: 16px; border-left: 1px solid var(--line); background: var(--soft); cursor: pointer; }
-dialog { max-width: 560px; padding: 20px 26px; border: 1px solid var(--line); border-radius: 10px; background: var(--bg); color: var(--ink); }
+.overview { position: fixed; right: 0; bottom: 0; width: 16px; border-left: 1px solid var(--line); background: var(--soft);
+  cursor: pointer; }
+dialog { max-width: 560px; padding: 20px 26px; border: 1px solid var(--line); border-radius: 10px; background: var(--bg);
+  color: var(--ink); }
 dialog::backdrop { background: rgb(0 0 0 / .35); }
 dialog dl { display: grid; grid-template-columns: max-content 1fr; gap: 6px 18px; margin: 12px 0 16px; }
 :focus-visible { outline: 2px solid var(--accent); outline-offset: 1px; }
@@ -121,5 +130,7 @@ dialog dl { display: grid; grid-template-columns: max-content 1fr; gap: 6px 18px
   .line { grid-template-columns: var(--margin) 40px var(--origin, 0) minmax(0, 1fr); grid-template-rows: 28px 24px; }
   .bytes { display: none; }
   .line .known { grid-row: 2; grid-column: 2 / -1; padding-left: 12px; }
+  .card dl, .panel dl { grid-template-columns: minmax(0, 1fr); }
+  dd { margin-bottom: 6px; }
 }
 "##;
