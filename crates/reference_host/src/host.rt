@@ -1,6 +1,6 @@
 use crate::pages::Pages;
 use crate::tenant::PlainTenant;
-use host_core::{Event, Reply, answered};
+use host_core::{Event, Reply, into_reply};
 use host_types::{Fault, Options};
 use std::alloc::{AllocError, Global};
 
@@ -58,10 +58,10 @@ impl PlainHost {
     pub fn apply(&mut self, event: &Event) -> Reply {
         let have = self.pages.free().saturating_sub(self.reserved());
         let Some(number) = event.tenant() else {
-            return answered(self.pages.serve(event, have));
+            return into_reply(self.pages.serve(event, have));
         };
         match self.tenants.get_mut(number as usize) {
-            Some(tenant) => answered(tenant.serve(self.alloc, &mut self.pages, event, have)),
+            Some(tenant) => into_reply(tenant.serve(self.alloc, &mut self.pages, event, have)),
             None => Reply::Refused(Fault::BadTenant),
         }
     }

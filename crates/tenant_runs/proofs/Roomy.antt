@@ -7,8 +7,8 @@ use Rattle.interp.specs.declared.need.Need.{Need}
 use Rattle.interp.specs.declared.need.Need.TheVariants.{Private, Ended, Load, Store, Lookup, Update, Delete}
 use Rattle.interp.specs.Needs.{maps_after}
 use Rattle.interp.specs.Machine.{MachineState}
-use Rattle.interp.specs.declared.way.Awaited.{Awaited}
-use Rattle.interp.specs.declared.way.Awaited.TheVariants.{Nothing, Loaded, Returned}
+use Rattle.interp.specs.declared.control.Awaited.{Awaited}
+use Rattle.interp.specs.declared.control.Awaited.TheVariants.{Nothing, Loaded, Returned}
 use Rattle.interp.specs.StandsFor.{Running, answered_by}
 use Rattle.tenant_runs.specs.UnderWay.{IsUnderWay, IsAsking, part_with_have}
 
