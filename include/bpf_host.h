@@ -18,8 +18,8 @@
  *     100         the handle is closed
  *     101         the handle is open already (bpf_host_new)
  *     102         the buffer has another length than the value (bpf_host_lookup), or the contexts can't have one size (bpf_host_run_many)
- * bpf_host_load, _begin, _run and _update copy what they are given first: where there is no memory for that, they return 41 whatever else but
- * 100 would be refused.
+ * bpf_host_load and _update copy what they are given first: where there is no memory for that, they return 41 whatever else but 100 would be
+ * refused. bpf_host_begin and _run take memory only where the context is longer than those of the tenant's runs before.
  * A call that doesn't return 0 changed nothing: neither the host nor what the caller's pointers lead to, but for the members of
  * `*refused` that the number speaks of (slot; need and have).
  *

@@ -102,7 +102,7 @@ pub extern "C" fn bpf_host_begin(
     refused: &mut BpfHostRefused,
 ) -> u32
     ensures { (answer : CallAnswer)
-        × HasAnswerFromCopy (Serves (Begin tenant program context.now)) answer handle.old.owner.host handle.new.owner.host
+        × HasAnswer (Serves (Begin tenant program context.now)) answer handle.old.owner.host handle.new.owner.host
         × (result ≡ call_code answer) × (refused.new ≡ refused_written answer refused.old) }
 {
     let answer = handle.begin(alloc, tenant, program, context);

@@ -83,19 +83,14 @@ impl BpfHost {
         program: u32,
         context: &[u8],
     ) -> Answer
-        ensures { HasAnswerFromCopy (Serves (Begin tenant program context.now)) result self.old.owner.host self.new.owner.host }
+        ensures { HasAnswer (Serves (Begin tenant program context.now)) result self.old.owner.host self.new.owner.host }
     {
-        match self.copied(alloc, context) {
-            Ok(context) => {
-                let event = Event::Begin {
-                    tenant,
-                    program,
-                    context,
-                };
-                self.serve(alloc, &event)
-            }
-            Err(answer) => answer,
-        }
+        let Some(mut host) = self.take(alloc) else {
+            return Answer::Closed;
+        };
+        let reply = host.begin(tenant, program, context);
+        self.put(host);
+        Answer::Replied(reply)
     }
 
     /// Writes a value to a map.

@@ -1,12 +1,12 @@
 ghost use Rattle.std.specs.Prelude.{◌≡◌};
 ghost use Rattle.bpf_host_c.specs.declared.answer.Answer.{Answer as CallAnswer};
-ghost use Rattle.bpf_host_c.specs.Answered.{HasAnswer, HasAnswerFromCopy, Goes, RunsWhole, Steps};
+ghost use Rattle.bpf_host_c.specs.Answered.{HasAnswer, Goes, RunsWhole, Steps};
 ghost use Rattle.bpf_host_c.specs.Codes.{call_code, run_written, ended_written, is_begun, refused_written};
 
 use crate::answer::Answer;
 use crate::handle::BpfHost;
 use crate::structs::{BpfHostRefused, BpfHostRun};
-use host_core::{Bytes, Event, Host, Reply};
+use host_core::{Host, Reply};
 use std::alloc::Global;
 
 /// More steps than a run makes.
@@ -24,7 +24,7 @@ pub extern "C" fn bpf_host_run(
     refused: &mut BpfHostRefused,
 ) -> u32
     ensures { (answer : CallAnswer)
-        × HasAnswerFromCopy (RunsWhole tenant program context.now) answer handle.old.owner.host handle.new.owner.host
+        × HasAnswer (RunsWhole tenant program context.now) answer handle.old.owner.host handle.new.owner.host
         × (result ≡ call_code answer) × (run.new ≡ run_written answer run.old) × (refused.new ≡ refused_written answer refused.old) }
 {
     let answer = run_whole(handle, alloc, tenant, program, context);
@@ -73,23 +73,7 @@ fn run_whole(
     program: u32,
     context: &[u8],
 ) -> Answer
-    ensures { HasAnswerFromCopy (RunsWhole tenant program context.now) result handle.old.owner.host handle.new.owner.host }
-{
-    match handle.copied(alloc, context) {
-        Ok(context) => run_copied(handle, alloc, tenant, program, context),
-        Err(answer) => answer,
-    }
-}
-
-/// Makes a whole run of a handle on a context of its own.
-fn run_copied(
-    handle: &mut BpfHost,
-    alloc: Global,
-    tenant: u32,
-    program: u32,
-    context: Bytes,
-) -> Answer
-    ensures { HasAnswer (RunsWhole tenant program context) result handle.old.owner.host handle.new.owner.host }
+    ensures { HasAnswer (RunsWhole tenant program context.now) result handle.old.owner.host handle.new.owner.host }
 {
     let Some(mut host) = handle.take(alloc) else {
         return Answer::Closed;
@@ -100,15 +84,10 @@ fn run_copied(
 }
 
 /// Makes a whole run.
-fn run(host: &mut Host, tenant: u32, program: u32, context: Bytes) -> Reply
-    ensures { Goes (RunsWhole tenant program context result) host.old host.new }
+fn run(host: &mut Host, tenant: u32, program: u32, context: &[u8]) -> Reply
+    ensures { Goes (RunsWhole tenant program context.now result) host.old host.new }
 {
-    let event = Event::Begin {
-        tenant,
-        program,
-        context,
-    };
-    let begun = host.apply(&event);
+    let begun = host.begin(tenant, program, context);
     if !has_begun(&begun) {
         return begun;
     }

@@ -8,7 +8,7 @@ ghost use Rattle.host_core.specs.World.{System, IsCovered, FoundIsOpen, new_syst
 ghost use Rattle.host_core.specs.Happens.{Happens, IsPromised, AllHappen, StepsHappen, SetHappens, UnmergeHappens, JoinHappens, SplitHappens};
 ghost use Rattle.host_core.specs.HostView.{StandsForSystem, reply_of};
 ghost use Rattle.host_types.specs.Events.{tenant_of};
-ghost use Rattle.host_types.specs.declared.event.Event.TheVariants.{Step};
+ghost use Rattle.host_types.specs.declared.event.Event.TheVariants.{Begin, Step};
 
 use crate::reply::Reply;
 use crate::tenant::Tenant;
@@ -55,7 +55,7 @@ impl Host {
             return Err(Fault::OutOfMemory);
         };
         for _ in 0..tenants {
-            entries.push_reserved(Tenant::new());
+            entries.push_reserved(Tenant::new(alloc));
         }
         Ok(Host {
             alloc,
@@ -75,6 +75,18 @@ impl Host {
             Event::Step { tenant } => self.step(*tenant),
             _ => self.serve(event),
         };
+        self.memory.facts();
+        reply
+    }
+
+    /// Opens a run of a tenant's loaded program on a context: the reply is that of `apply` to `Event::Begin`. The context is
+    /// read where it is, and the call takes memory only where it is longer than those of the tenant's runs before.
+    pub fn begin(&mut self, tenant: u32, program: u32, context: &[u8]) -> Reply
+        ensures { (x : System) → StandsForSystem self.old x
+            → (next : System) × StandsForSystem self.new next
+            × Happens x (Begin tenant program context.now) result next × IsPromised x (Begin tenant program context.now) result next × IsCovered next }
+    {
+        let reply = self.begin_run(tenant, program, context);
         self.memory.facts();
         reply
     }
@@ -132,6 +144,19 @@ impl Host {
             return Reply::Refused(Fault::BadTenant);
         }
         self.tenants[entry_index].step(&mut self.memory, tenant)
+    }
+
+    /// Lets a run open, without the way through all other events.
+    fn begin_run(&mut self, tenant: u32, program: u32, context: &[u8]) -> Reply
+        ensures { (x : System) → StandsForSystem self.old x
+            → (next : System) × StandsForSystem self.new next
+            × Happens x (Begin tenant program context.now) result next × IsPromised x (Begin tenant program context.now) result next }
+    {
+        let entry_index = tenant as usize;
+        if entry_index >= self.tenants.len() {
+            return Reply::Refused(Fault::BadTenant);
+        }
+        self.tenants[entry_index].begin_run(&mut self.memory, tenant, program, context)
     }
 
     /// Lets any event happen.

@@ -1,7 +1,7 @@
 ghost use Rattle.std.specs.Prelude.{◌≡◌, ◌<◌, min, length, position, slice_index_or, option_copied, is_none, Option, None, IfSome};
 ghost use Rattle.std.specs.List.{list_any};
 ghost use Rattle.verifier.specs.Verified.{Accepted};
-ghost use Rattle.host_core.specs.HostView.{names_in, steps_of};
+ghost use Rattle.host_core.specs.HostView.{names_in};
 
 use crate::host::into_reply;
 use crate::reply::Reply;
@@ -13,14 +13,14 @@ use interp::{Need, Run};
 use page_table::Memory;
 use std::alloc::Global;
 use std::marker::Model;
-use tenant_runs::{TenantMaps, answer, open_run};
+use tenant_runs::{TenantMaps, answer, reopen_run};
 use verifier::{Verified, is_context_size};
 
 /// A tenant: its eight entries for programs, and its open run, if it has one. Its maps are the memory's.
 #[derive(Drop)]
 pub(crate) struct Tenant {
     programs: [Option<Verified>; MAX_PROGRAMS],
-    run: Option<OpenRun>,
+    run: TenantRun,
 }
 
 /// An open run, and the number of its program.
@@ -30,12 +30,29 @@ pub(crate) struct OpenRun {
     run: Run,
 }
 
+/// A tenant's open run, if it has one: contracts see an `Option`. A run that ended stays where it is, and the next one takes
+/// its memory, so that to open and to end a run moves nothing.
+#[derive(Drop)]
+pub(crate) struct TenantRun {
+    is_open: bool,
+    latest: OpenRun,
+}
+
 /// Steps that were made in one go: how many, and the reply to the last one where the run ended with it or it
 /// was refused.
 #[derive(Drop)]
 pub(crate) struct Batch {
     steps: u64,
     last: Option<Reply>,
+}
+
+impl Model for TenantRun {
+    ghost use Rattle.std.specs.Prelude.{Option, Some, None, if◌then◌else◌};
+    ghost use Rattle.host_core.specs.declared.tenant.OpenRun.{OpenRun as KeptRun};
+
+    ghost Value = { Option KeptRun };
+
+    ghost view = { λ run. if run.is_open then Some run.latest else None };
 }
 
 impl Model for Tenant {
@@ -53,12 +70,12 @@ impl Tenant {
     ghost use Rattle.host_core.specs.HostView.{StandsForTenant, IsKept, IsServed, HasMadeSteps, HasCounted, reply_of};
     ghost use Rattle.host_types.specs.Events.{tenant_of};
 
-    pub(crate) fn new() -> Tenant
+    pub(crate) fn new(alloc: Global) -> Tenant
         ensures { StandsForTenant result new_tenant }
     {
         Tenant {
             programs: [None, None, None, None, None, None, None, None],
-            run: None,
+            run: TenantRun::none(alloc),
         }
     }
 
@@ -105,7 +122,7 @@ impl Tenant {
                 program,
                 context,
                 ..
-            } => self.begin(alloc, memory, number, *program, context.as_slice()),
+            } => self.begin(memory, number, *program, context.as_slice()),
             Event::Step { .. } => Ok(self.step(memory, number)),
             Event::HostUpdate {
                 map,
@@ -132,7 +149,7 @@ impl Tenant {
         requires kept { IsKept number self.now memory.old }
         ensures { IsServed number self.now memory.old (CreateMap number value_size entries mergeable) (reply_of result) self.now memory.new }
     {
-        if self.run.is_some() {
+        if self.run.is_open() {
             return Err(Fault::Busy);
         }
         let map = host_create_map(memory, number, value_size, entries, mergeable)?;
@@ -153,7 +170,7 @@ impl Tenant {
         requires kept { IsKept number self.old memory.now }
         ensures { IsServed number self.old memory.now (Load number text.now context_size) (reply_of result) self.new memory.now }
     {
-        if self.run.is_some() {
+        if self.run.is_open() {
             return Err(Fault::Busy);
         }
         let Some(entry_index) = first_free(self.programs.as_slice()) else {
@@ -169,10 +186,23 @@ impl Tenant {
         Ok(Reply::Program(entry_index as u32))
     }
 
+    /// Serves the event that opens a run of a program.
+    pub(crate) fn begin_run(
+        &mut self,
+        memory: &mut Memory,
+        number: u32,
+        program: u32,
+        context: &[u8],
+    ) -> Reply
+        requires kept { IsKept number self.old memory.old }
+        ensures { IsServed number self.old memory.old (Begin number program context.now) result self.new memory.new }
+    {
+        into_reply(self.begin(memory, number, program, context))
+    }
+
     /// Opens a run of a program, with the frames that it may need.
     fn begin(
         &mut self,
-        alloc: Global,
         memory: &mut Memory,
         number: u32,
         program: u32,
@@ -181,15 +211,16 @@ impl Tenant {
         requires kept { IsKept number self.old memory.old }
         ensures { IsServed number self.old memory.old (Begin number program context.now) (reply_of result) self.new memory.new }
     {
-        if self.run.is_some() {
+        if self.run.is_open {
             return Err(Fault::Busy);
         }
         let Some(verified) = program_of(self.programs.as_slice(), program) else {
             return Err(Fault::NoProgram);
         };
-        let run = open_run(alloc, memory, number, verified, context)?;
+        reopen_run(memory, number, verified, context, &mut self.run.latest.run)?;
         memory.facts();
-        self.run = Some(OpenRun { program, run });
+        self.run.latest.program = program;
+        self.run.is_open = true;
         Ok(Reply::Begun)
     }
 
@@ -205,7 +236,7 @@ impl Tenant {
         requires kept { IsKept number self.now memory.old }
         ensures { IsServed number self.now memory.old (HostUpdate number map key value.now) (reply_of result) self.now memory.new }
     {
-        if self.run.is_some() {
+        if self.run.is_open() {
             return Err(Fault::Busy);
         }
         host_update(memory, number, map, key, value)?;
@@ -235,7 +266,7 @@ impl Tenant {
         requires kept { IsKept number self.old memory.now }
         ensures { IsServed number self.old memory.now (Unload number program) (reply_of result) self.new memory.now }
     {
-        if self.run.is_some() {
+        if self.run.is_open() {
             return Err(Fault::Busy);
         }
         let Some(_) = program_of(self.programs.as_slice(), program) else {
@@ -251,7 +282,7 @@ impl Tenant {
         requires kept { IsKept number self.now memory.old }
         ensures { IsServed number self.now memory.old (DropMap number map) (reply_of result) self.now memory.new }
     {
-        if self.run.is_some() {
+        if self.run.is_open() {
             return Err(Fault::Busy);
         }
         // A map that isn't there is refused before its use is asked.
@@ -273,15 +304,16 @@ impl Tenant {
         ensures { IsServed number self.old memory.old (Step number) result self.new memory.new }
     {
         memory.facts();
-        let Some(open) = &mut self.run else {
+        if !self.run.is_open {
             return Reply::Refused(Fault::NoRun);
-        };
+        }
+        let open = &mut self.run.latest;
         let ended = open.step(self.programs.as_slice(), memory, number);
         memory.facts();
         let steps = open.run.steps();
         match ended {
             Some(ret) => {
-                self.run = None;
+                self.run.is_open = false;
                 Reply::Ended { ret, steps }
             }
             None => Reply::Stepped,
@@ -323,20 +355,21 @@ impl Tenant {
         ensures counted { HasCounted self.old result.steps result.last self.new }
     {
         memory.facts();
-        let before = steps_made(&self.run);
-        let Some(open) = &mut self.run else {
+        let before = self.run.steps();
+        if !self.run.is_open {
             return Batch {
                 steps: 1,
                 last: Some(Reply::Refused(Fault::NoRun)),
             };
-        };
+        }
+        let open = &mut self.run.latest;
         let ended = open.advance(self.programs.as_slice(), memory, number, limit);
         memory.facts();
         let steps = open.run.steps();
         let made = u64::from(steps - before);
         match ended {
             Some(ret) => {
-                self.run = None;
+                self.run.is_open = false;
                 Batch {
                     steps: made,
                     last: Some(Reply::Ended { ret, steps }),
@@ -346,6 +379,41 @@ impl Tenant {
                 steps: made,
                 last: None,
             },
+        }
+    }
+}
+
+impl TenantRun {
+    ghost use Rattle.std.specs.Prelude.{◌≡◌, is_some, None};
+    ghost use Rattle.host_core.specs.HostView.{steps_of};
+
+    /// No open run. It takes no memory.
+    fn none(alloc: Global) -> TenantRun
+        ensures { result ≡ None }
+    {
+        TenantRun {
+            is_open: false,
+            latest: OpenRun {
+                program: 0,
+                run: Run::new(alloc),
+            },
+        }
+    }
+
+    fn is_open(&self) -> bool
+        ensures { result ≡ is_some self.now }
+    {
+        self.is_open
+    }
+
+    /// How many steps the open run made, and 0 without one.
+    fn steps(&self) -> u32
+        ensures { result ≡ steps_of self.now }
+    {
+        if self.is_open {
+            self.latest.run.steps()
+        } else {
+            0
         }
     }
 }
@@ -504,16 +572,6 @@ fn names(slot: &Option<Verified>, map: MapNo) -> bool
     match slot {
         Some(program) => program.names(map),
         None => false,
-    }
-}
-
-/// How many steps an open run made, and 0 without one.
-fn steps_made(run: &Option<OpenRun>) -> u32
-    ensures { result ≡ steps_of run.now }
-{
-    match run {
-        Some(open) => open.run.steps(),
-        None => 0,
     }
 }
 

@@ -12,5 +12,5 @@ mod running;
 pub use driving::{RunReply, answer, finish};
 pub use maps::TenantMaps;
 pub use needs::fulfil;
-pub use opening::open_run;
+pub use opening::{open_run, reopen_run};
 pub use running::{has_shapes, run};

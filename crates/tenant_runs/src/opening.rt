@@ -40,6 +40,36 @@ pub fn open_run(
     ensures refused { IfErr result (RefusesOpen program.now context.now memory.old tenant) }
     ensures unchanged { OnErr result (memory.new ≡ memory.old) }
 {
+    let mut run = Run::new(alloc);
+    reopen_run(memory, tenant, program, context, &mut run)?;
+    Ok(run)
+}
+
+/// Opens a run as `open_run` does, in a run that the tenant has kept, whose memory it takes: it asks for memory only where
+/// the context is longer than those before. A refusal changes nothing.
+pub fn reopen_run(
+    memory: &mut Memory,
+    tenant: u32,
+    program: &Verified,
+    context: &[u8],
+    run: &mut Run,
+) -> Result<(), Fault>
+    requires there { length (part memory.old tenant).maps ≡ 8 }
+    requires none { (part memory.old tenant).running ≡ false }
+    requires unreserved { (part memory.old tenant).reserve ≡ 0 }
+    ensures sized { OnOk result (length context.now ≡ program.now.subject.context_size) }
+    ensures begun { OnOk result (IsBegun program.now context.now run.new) }
+    ensures steps { OnOk result (run.new.steps ≡ 0) }
+    ensures enough { OnOk result (needed_from program.now (part memory.old tenant) 0 ≤ have_of memory.old) }
+    ensures recorded { OnOk result
+        (part memory.new tenant ≡ with_run (needed_from program.now (part memory.old tenant) 0) (part memory.old tenant)) }
+    ensures all { OnOk result
+        (memory.new ≡ opened memory.old tenant (needed_from program.now (part memory.old tenant) 0)) }
+    ensures others { OtherTenantsUnchanged tenant memory.old memory.new }
+    ensures refused { IfErr result (RefusesOpen program.now context.now memory.old tenant) }
+    ensures unchanged { OnErr result (memory.new ≡ memory.old) }
+    ensures kept { OnErr result (run.new ≡ run.old) }
+{
     if context.len() != program.ctx_size() as usize {
         return Err(Fault::BadContext);
     }
@@ -48,9 +78,8 @@ pub fn open_run(
     if have < need {
         return Err(Fault::NoFrames { need, have });
     }
-    let Ok(run) = Run::begin(alloc, program, context) else {
+    if run.restart(program, context).is_err() {
         return Err(Fault::OutOfMemory);
-    };
-    admit(memory, tenant, need)?;
-    Ok(run)
+    }
+    admit(memory, tenant, need)
 }

@@ -11,11 +11,15 @@ void *__real_realloc(void *block, size_t size);
 void *__wrap_malloc(size_t size);
 void *__wrap_realloc(void *block, size_t size);
 
+/* How many allocations were asked for. */
+static unsigned asked;
+
 /* Which allocation from now is refused: 0 for none. */
 static unsigned left_until_refused;
 
 static int is_refused(void)
 {
+    asked++;
     return left_until_refused != 0 && --left_until_refused == 0;
 }
 
@@ -72,6 +76,8 @@ static void list_of_calls(void)
     AGAIN(bpf_host_update(&host, 0, 0, 0, value, sizeof value, &refused));
     AGAIN(bpf_host_run(&host, 0, 0, value, 8, &run, &refused));
     wanted(run.ret == 42 && run.steps == 2, "another run");
+    unsigned before = asked;
+    wanted(bpf_host_run(&host, 0, 0, value, 8, &run, &refused) == 0 && asked == before, "a second run takes memory");
     AGAIN(bpf_host_begin(&host, 0, 0, value, 8, &refused));
     AGAIN(bpf_host_step(&host, 0, 9, &ended, &run));
     wanted(ended, "the run goes on");

@@ -12,15 +12,15 @@ use Rattle.host_core.proofs.Serving.{kept-there}
 use Rattle.host_core.proofs.Loading.{first_free_of, lent-free, load-busy, load-full, load-size, load-verdict, load-accepted}
 use Rattle.host_core.proofs.tenant.Tenant.load.Goals as goal
 
-pub returns-then-is_some : goal.returns-then-is_some
-returns-then-is_some c =
-    let busy : is_some c.args.self.now.run ≡ true = sym (ap (λ (kept : TenantView). is_some kept.run) c.self.view_is) ∙ sym c.is_some.ensures ∙ c.if-is_some.true in
+pub returns-then-is_open : goal.returns-then-is_open
+returns-then-is_open c =
+    let busy : is_some c.args.self.now.run ≡ true = sym (ap (λ (kept : TenantView). is_some kept.run) c.self.view_is) ∙ sym c.is_open.ensures ∙ c.if-is_open.true in
     load-busy c.args.number c.args.self.now c.args.memory.now c.args.text.now c.args.context_size busy
 
 pub returns-in_default : goal.returns-in_default
 returns-in_default c =
     let kept : TenantView = record { programs = c.self.inside.programs; run = c.self.inside.run } in
-    let idle : is_some c.self.inside.run ≡ false = sym c.is_some.ensures ∙ c.if-is_some.false in
+    let idle : is_some c.self.inside.run ≡ false = sym c.is_open.ensures ∙ c.if-is_open.false in
     let full : first_free_of kept ≡ None = lent-free kept c.as_slice.result.now c.first_free.result c.as_slice.ensures c.first_free.ensures.first ∙ c.in_default.is in
     subst (λ seen. IsServed c.args.number seen c.args.memory.now (Load c.args.number c.args.text.now c.args.context_size) (Refused TooManyPrograms) seen c.args.memory.now) c.self.view_is
     (load-full c.args.number kept c.args.memory.now c.args.text.now c.args.context_size idle full)
@@ -28,7 +28,7 @@ returns-in_default c =
 pub returns-then-not-is_context_size : goal.returns-then-not-is_context_size
 returns-then-not-is_context_size c =
     let kept : TenantView = record { programs = c.self.inside.programs; run = c.self.inside.run } in
-    let idle : is_some c.self.inside.run ≡ false = sym c.is_some.ensures ∙ c.if-is_some.false in
+    let idle : is_some c.self.inside.run ≡ false = sym c.is_open.ensures ∙ c.if-is_open.false in
     let room : first_free_of kept ≡ Some c.in-Some.entry_index = lent-free kept c.as_slice.result.now c.first_free.result c.as_slice.ensures c.first_free.ensures.first ∙ c.in-Some.is in
     let odd : IsContextSize c.args.context_size → ⊥ = λ fits. let yes = c.is_context_size.ensures.1 fits in cc in
     subst (λ seen. IsServed c.args.number seen c.args.memory.now (Load c.args.number c.args.text.now c.args.context_size) (Refused BadContext) seen c.args.memory.now) c.self.view_is
@@ -40,7 +40,7 @@ host_shapes-shapes-requires c = kept-there c.args.number c.args.self.now c.args.
 pub returns-in_err-program : goal.returns-in_err-program
 returns-in_err-program c =
     let kept : TenantView = record { programs = c.self.inside.programs; run = c.self.inside.run } in
-    let idle : is_some c.self.inside.run ≡ false = sym c.is_some.ensures ∙ c.if-is_some.false in
+    let idle : is_some c.self.inside.run ≡ false = sym c.is_open.ensures ∙ c.if-is_open.false in
     let room : first_free_of kept ≡ Some c.in-Some.entry_index = lent-free kept c.as_slice.result.now c.first_free.result c.as_slice.ensures c.first_free.ensures.first ∙ c.in-Some.is in
     let fits : IsContextSize c.args.context_size = c.is_context_size.ensures.0 (c.if-not-is_context_size.false) in
     let shapes = c.as_slice-2.ensures ∙ c.host_shapes-shapes.ensures.shapes in
@@ -55,7 +55,7 @@ pub returns : goal.returns
 returns c =
     let with : List (Option Accepted) → TenantView = λ programs. record { programs = programs; run = c.self.inside.run } in
     let kept : TenantView = with c.self.inside.programs in
-    let idle : is_some c.self.inside.run ≡ false = sym c.is_some.ensures ∙ c.if-is_some.false in
+    let idle : is_some c.self.inside.run ≡ false = sym c.is_open.ensures ∙ c.if-is_open.false in
     let room : first_free_of kept ≡ Some c.in-Some.entry_index = lent-free kept c.as_slice.result.now c.first_free.result c.as_slice.ensures c.first_free.ensures.first ∙ c.in-Some.is in
     let fits : IsContextSize c.args.context_size = c.is_context_size.ensures.0 (c.if-not-is_context_size.false) in
     let event = Load c.args.number c.args.text.now c.args.context_size in

@@ -1,0 +1,33 @@
+use Rattle.std.proofs.Common.{◌≤◌, length, set, refl, subst, arith}
+use Rattle.std.proofs.lemmas.Option.{slice_get_past}
+use Rattle.host_types.specs.declared.fault.Fault.TheVariants.{BadTenant}
+use Rattle.host_types.specs.declared.event.Event.TheVariants.{Begin}
+use Rattle.host_core.specs.declared.reply.Reply.TheVariants.{Refused}
+use Rattle.host_core.specs.HostView.{HostView}
+use Rattle.host_core.proofs.Hosting.{Hosts, hosts-served, hosts-no_tenant, tenant_there, kept_in}
+use Rattle.host_core.proofs.host.Host.begin_run.Goals as goal
+
+pub returns-then-entry_index-len : goal.returns-then-entry_index-len
+returns-then-entry_index-len c =
+    let past : length c.self.inside.tenants.items ≤ c.args.tenant = omega (arith, c.self.inside.tenants.ok.0) in
+    subst (λ view. Hosts view (Begin c.args.tenant c.args.program c.args.context.now) (Refused BadTenant) view) c.self.view_is
+    (hosts-no_tenant c.self.inside.tenants.items c.self.inside.memory c.args.tenant (Begin c.args.tenant c.args.program c.args.context.now) refl (slice_get_past _ _ past))
+
+pub begin_run-requires : goal.begin_run-requires
+begin_run-requires c = record {
+  kept = kept_in c.self.inside.tenants.items c.self.inside.memory c.args.tenant c.index_mut.result.now c.self.invariant (omega (arith, c.self.inside.tenants.ok.0)) c.index_mut.ensures.value;
+}
+
+abbrev new : goal.After-self-1 → HostView
+new c = record { tenants = set c.self.inside.tenants.items c.args.tenant c.begin_run.new.self; memory = c.begin_run.new.memory }
+
+serves : (c : goal.After-self-1) → Hosts (record { tenants = c.self.inside.tenants.items; memory = c.self.inside.memory }) (Begin c.args.tenant c.args.program c.args.context.now) c.begin_run.result (new c)
+serves c =
+    hosts-served c.self.inside.tenants.items c.self.inside.memory c.begin_run.new.memory c.args.tenant c.index_mut.result.now c.begin_run.new.self (Begin c.args.tenant c.args.program c.args.context.now) c.begin_run.result
+    (tenant_there c.self.inside.tenants.items c.args.tenant c.index_mut.result.now (omega (arith, c.self.inside.tenants.ok.0)) c.index_mut.ensures.value) c.begin_run.ensures
+
+pub invariant_of-self : goal.invariant_of-self
+invariant_of-self c = let after = serves c c.self.invariant.0 c.self.invariant.1 in (after.0, after.1)
+
+pub returns : goal.returns
+returns c = subst (λ old. Hosts old (Begin c.args.tenant c.args.program c.args.context.now) c.begin_run.result (new c)) c.self.view_is (serves c)
