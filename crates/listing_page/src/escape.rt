@@ -7,6 +7,7 @@ use std::alloc::{AllocError, Global};
 
 /// A text as it stands between the quotes of a JSON string: characters of ASCII that print, but for `"`, `&`, `<`, `>` and
 /// `\`, as they are, and of every other one the `\uXXXX` of its units of UTF-16.
+#[tactic(auto, using(crate::proofs::Pushed::no_bytes))]
 pub fn escaped(alloc: Global, text: &str) -> Result<Vec<u8>, AllocError>
     ensures { IfOk result (λ escaped. All IsInert escaped.items) }
 {
@@ -19,11 +20,11 @@ pub fn escaped(alloc: Global, text: &str) -> Result<Vec<u8>, AllocError>
 
 /// Adds the character of a code.
 fn push_escaped(escaped: &mut Vec<u8>, code: u32) -> Result<(), AllocError>
-    ensures { OnOk result (All IsInert escaped.old.items → All IsInert escaped.new.items) }
+    requires { All IsInert escaped.old.items }
+    ensures { OnOk result (All IsInert escaped.new.items) }
 {
     if let Some(byte) = inert(code) {
-        escaped.push(byte)?;
-        return Ok(());
+        return push_byte(escaped, byte);
     }
     if code < 0x10000 {
         return push_unit(escaped, code);
@@ -58,10 +59,11 @@ fn is_inert(byte: u8) -> bool
 
 /// Adds the escape of a unit of UTF-16: a backslash, `u` and four digits.
 fn push_unit(escaped: &mut Vec<u8>, unit: u32) -> Result<(), AllocError>
-    ensures { OnOk result (All IsInert escaped.old.items → All IsInert escaped.new.items) }
+    requires { All IsInert escaped.old.items }
+    ensures { OnOk result (All IsInert escaped.new.items) }
 {
-    escaped.push(b'\\')?;
-    escaped.push(b'u')?;
+    push_byte(escaped, b'\\')?;
+    push_byte(escaped, b'u')?;
     push_digit(escaped, unit / 0x1000)?;
     push_digit(escaped, unit / 0x100)?;
     push_digit(escaped, unit / 0x10)?;
@@ -70,9 +72,20 @@ fn push_unit(escaped: &mut Vec<u8>, unit: u32) -> Result<(), AllocError>
 
 /// Adds the last hex digit of a number.
 fn push_digit(escaped: &mut Vec<u8>, number: u32) -> Result<(), AllocError>
-    ensures { OnOk result (All IsInert escaped.old.items → All IsInert escaped.new.items) }
+    requires { All IsInert escaped.old.items }
+    ensures { OnOk result (All IsInert escaped.new.items) }
 {
-    escaped.push(digit((number % 16) as u8))?;
+    push_byte(escaped, digit((number % 16) as u8))
+}
+
+/// Adds a byte.
+#[tactic(auto, using(crate::proofs::Pushed::pushed_byte))]
+fn push_byte(escaped: &mut Vec<u8>, byte: u8) -> Result<(), AllocError>
+    requires inert { IsInert byte }
+    requires before { All IsInert escaped.old.items }
+    ensures { OnOk result (All IsInert escaped.new.items) }
+{
+    escaped.push(byte)?;
     Ok(())
 }
 

@@ -1,0 +1,135 @@
+//! The words of the command line.
+
+use crate::fault::Fault;
+use clap::{Arg, ArgAction, ArgMatches, Command};
+use std::alloc::{AllocError, Global};
+use terminal_text::quoted;
+
+/// The program's name.
+const NAME: &str = "bpf_object";
+
+/// What words ask for.
+#[derive(Debug, Drop)]
+pub struct Asked<'a> {
+    pub path: &'a str,
+    pub section: Option<&'a str>,
+    pub tenant: u32,
+    pub context: u32,
+    pub form: Form,
+}
+
+/// What is printed of a program.
+#[derive(Clone, Copy, Debug, PartialEq, Eq)]
+pub enum Form {
+    /// Events of a host file.
+    Events,
+    /// The text, as hex.
+    Hex,
+    /// The shapes of its maps.
+    Maps,
+}
+
+/// What words ask for, the program's name being the first of them. All that makes no request, help among it, is usage.
+pub fn asked_of<'a>(alloc: Global, words: &'a [String]) -> Result<Asked<'a>, Fault> {
+    let Ok(matches) = command(alloc)?.try_get_matches_from(words) else {
+        return Err(Fault::Usage(usage_of(alloc, words)?));
+    };
+    let Some(path) = matches.get_str("FILE") else {
+        return Err(Fault::Usage(String::from_str(alloc, "no FILE is given")?));
+    };
+    let form = match (matches.get_flag("hex"), matches.get_flag("maps")) {
+        (false, false) => Form::Events,
+        (true, false) => Form::Hex,
+        (false, true) => Form::Maps,
+        (true, true) => {
+            let said = String::from_str(alloc, "--hex and --maps can't both be given")?;
+            return Err(Fault::Usage(said));
+        }
+    };
+    Ok(Asked {
+        path,
+        section: matches.get_str("section"),
+        tenant: number_of(alloc, &matches, "tenant")?,
+        context: number_of(alloc, &matches, "context")?,
+        form,
+    })
+}
+
+/// The number that an option has, or 0 where it isn't given.
+fn number_of(alloc: Global, matches: &ArgMatches<'_>, option: &str) -> Result<u32, Fault> {
+    let word = matches.get_str(option).unwrap_or("0");
+    let is_decimal = word.bytes().all(|byte| byte.is_ascii_digit());
+    match word.parse::<u32>() {
+        Ok(number) if is_decimal => Ok(number),
+        _ => {
+            let word = quoted(alloc, word)?;
+            Err(Fault::Usage(format!(in alloc;
+                "--{option} `{word}` is no decimal number from 0 to 4294967295"
+            )?))
+        }
+    }
+}
+
+/// What the command says of words that make no request: those from outside are cut and escaped.
+fn usage_of(alloc: Global, words: &[String]) -> Result<String, AllocError> {
+    let mut shown = Vec::new(alloc);
+    shown.push(String::from_str(alloc, NAME)?)?;
+    for word in words.iter().skip(1) {
+        shown.push(quoted(alloc, word.as_str())?)?;
+    }
+    match command(alloc)?.try_get_matches_from(shown.as_slice()) {
+        Ok(_) => String::from_str(alloc, "the words make no request"),
+        Err(error) => error.to_string(alloc),
+    }
+}
+
+fn command<'a>(alloc: Global) -> Result<Command<'a>, AllocError> {
+    let file = Arg::new(alloc, "FILE")
+        .help("the object file, as clang -target bpf -c makes it")
+        .required(true)
+        .action(ArgAction::Set);
+    Command::new(alloc, NAME)
+        .about("prints the events of a host file that load a program from an object file")
+        .arg(file)?
+        .arg(option(
+            alloc,
+            "section",
+            "NAME",
+            "the section or the function, where there are several",
+        ))?
+        .arg(option(alloc, "tenant", "N", "the tenant, 0 if it isn't given"))?
+        .arg(option(
+            alloc,
+            "context",
+            "N",
+            "the bytes of the context, 0 if it isn't given",
+        ))?
+        .arg(flag(alloc, "hex", "prints the text alone, as hex"))?
+        .arg(flag(
+            alloc,
+            "maps",
+            "prints the name and the shape V:E of each map",
+        ))
+}
+
+/// An option that has a value.
+fn option<'a>(
+    alloc: Global,
+    name: &'static str,
+    value: &'static str,
+    help: &'static str,
+) -> Arg<'a> {
+    Arg::new(alloc, name)
+        .long(name)
+        .value_name(value)
+        .help(help)
+        .action(ArgAction::Set)
+}
+
+/// An option that has none.
+fn flag<'a>(alloc: Global, name: &'static str, help: &'static str) -> Arg<'a> {
+    Arg::new(alloc, name)
+        .long(name)
+        .help(help)
+        .action(ArgAction::SetTrue)
+}

@@ -1,0 +1,59 @@
+//! Why the program ended with another status than 0.
+
+use inlining::NotInlined;
+use object_file::ObjectError;
+use std::alloc::{AllocError, AllocFailed};
+use std::io::{self, Write};
+use thiserror::Error;
+
+/// Why nothing was printed, or not all.
+#[derive(Debug, Drop, Error)]
+pub enum Fault {
+    /// The object file isn't taken: status 1.
+    #[error("{0}: {1}")]
+    Refused(String, ObjectError),
+    /// The functions that it calls can't be copied into one text: status 1. The number counts bytes of the file.
+    #[error("{0}: byte {1} of the file: {2}")]
+    NotInlined(String, usize, NotInlined),
+    #[error("out of memory")]
+    OutOfMemory(AllocError),
+    #[error("cannot read the standard input: {0}")]
+    Read(io::Error),
+    #[error("cannot write the output: {0}")]
+    Write(io::Error),
+    /// The words of the command line are none that the program takes, or name no file that can be read.
+    #[error("{0}")]
+    Usage(String),
+}
+
+impl From<AllocError> for Fault {
+    fn from(error: AllocError) -> Self {
+        Fault::OutOfMemory(error)
+    }
+}
+
+/// Lets go of what found no room.
+impl<T: Drop> From<AllocFailed<T>> for Fault {
+    fn from(failed: AllocFailed<T>) -> Self {
+        Fault::OutOfMemory(AllocError::from(failed))
+    }
+}
+
+/// The status of an outcome: 1 for a refused object file, 2 for what else failed.
+pub fn status_of(outcome: &Result<(), Fault>) -> u8 {
+    match outcome {
+        Ok(()) => 0,
+        Err(Fault::Refused(..) | Fault::NotInlined(..)) => 1,
+        Err(_) => 2,
+    }
+}
+
+/// Writes what a fault says.
+pub fn write_fault<W: Write>(errors: &mut W, fault: &Fault) -> io::Result<()> {
+    writeln!(errors, "{fault}")
+}
+
+/// What came of a write.
+pub fn written(outcome: io::Result<()>) -> Result<(), Fault> {
+    outcome.map_err(Fault::Write)
+}

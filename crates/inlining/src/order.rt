@@ -1,0 +1,254 @@
+//! Functions in the order in which copies of them are made: each after those that it calls.
+
+ghost use Rattle.std.specs.Prelude.{IfOk, IsTrue};
+ghost use Rattle.inlining.specs.Whole.{IsWhole};
+
+use crate::copying::copied;
+use crate::expansion::{Begins, MOST_SLOTS, push};
+use crate::frame::{STACK, frame_of};
+use crate::instruction::{CALL, Insn, bit};
+use crate::liveness::{KEPT_REGISTERS, live, live_after, written};
+use crate::stop::{NotInlined, Stop};
+use std::alloc::Global;
+
+/// A function: its text, and which function each of its calls calls.
+#[derive(Clone, Copy)]
+pub struct Function<'a> {
+    pub text: &'a [u8],
+    pub calls: &'a [Call],
+}
+
+/// A call at a slot, of the function with a number.
+#[derive(Clone, Copy)]
+pub struct Call {
+    pub slot: usize,
+    pub function: usize,
+}
+
+/// A text without calls of functions, if it is made, with how much stack it uses.
+#[derive(Drop)]
+struct Made {
+    text: Vec<u8>,
+    frame: i16,
+}
+
+/// One text of function 0 and of those that it calls.
+pub fn inlined(alloc: Global, functions: &[Function<'_>]) -> Result<Vec<u8>, NotInlined>
+    ensures { IfOk result (λ text. IsWhole text.items) }
+{
+    let mut made: Vec<Option<Made>> = Vec::new(alloc);
+    for _function in functions {
+        made.push(None)?;
+    }
+    for _round in functions {
+        make_more(alloc, functions, &mut made)?;
+    }
+    match made.into_iter().next() {
+        Some(Some(first)) if is_whole(first.text.as_slice()) => Ok(first.text),
+        Some(Some(_)) => Err(Stop::UnknownCall.at(0)),
+        _ => Err(Stop::Recursion.at(0)),
+    }
+}
+
+/// Whether a text has whole slots, at most 4096 of them, and no call of a function.
+fn is_whole(text: &[u8]) -> bool
+    ensures { IsTrue result → IsWhole text.now }
+{
+    if text.len() % 8 != 0 || text.len() > 8 * MOST_SLOTS {
+        return false;
+    }
+    for slot in 0..text.len() / 8 {
+        if text[8 * slot] == CALL && text[8 * slot + 1] / 16 == 1 {
+            return false;
+        }
+    }
+    true
+}
+
+/// Makes each text whose calls are of functions whose texts are made.
+fn make_more(
+    alloc: Global,
+    functions: &[Function<'_>],
+    made: &mut Vec<Option<Made>>,
+) -> Result<(), NotInlined> {
+    for (number, function) in functions.iter().enumerate() {
+        let is_made = matches!(made.get(number), Some(Some(_)));
+        if is_made
+            || !function
+                .calls
+                .iter()
+                .all(|call| matches!(made.get(call.function), Some(Some(_))))
+        {
+            continue;
+        }
+        match with_copies(alloc, function, made.as_slice()) {
+            Ok(text) => {
+                if let Some(slot) = made.get_mut(number) {
+                    *slot = Some(text);
+                }
+            }
+            Err(error) => {
+                let NotInlined {
+                    function: _,
+                    slot,
+                    stop,
+                } = error;
+                return Err(NotInlined {
+                    function: number,
+                    slot,
+                    stop,
+                });
+            }
+        }
+    }
+    Ok(())
+}
+
+/// A call in a text: which registers it saves, the copy of the called text, and how much stack is used there.
+#[derive(Drop)]
+struct Copied {
+    saved: u16,
+    copy: Vec<u8>,
+    end: i16,
+}
+
+impl Copied {
+    /// The slots that stand for the call.
+    fn slots(&self) -> usize {
+        let mut slots = self.copy.len() / 8;
+        for register in KEPT_REGISTERS {
+            if self.saved & bit(register) != 0 {
+                slots = slots.saturating_add(2);
+            }
+        }
+        slots
+    }
+}
+
+/// The text of a function with a copy of the called text at each call.
+fn with_copies(
+    alloc: Global,
+    function: &Function<'_>,
+    made: &[Option<Made>],
+) -> Result<Made, NotInlined> {
+    let text = function.text;
+    let frame = frame_of(alloc, text)?;
+    let copies = copies_of(alloc, function, frame, made)?;
+    let mut begins = Begins::new(alloc);
+    for copy in &copies {
+        begins.add(match copy {
+            Some(copied) => copied.slots(),
+            None => 1,
+        })?;
+    }
+    let mut whole: Vec<u8> = Vec::new(alloc);
+    let mut is_second = false;
+    for (slot, copy) in copies.iter().enumerate() {
+        let Some(insn) = Insn::at(text, slot) else {
+            continue;
+        };
+        let at = whole.len() / 8;
+        match copy {
+            Some(copied) => push_copy(copied, frame, &mut whole)?,
+            None if is_second => push(&mut whole, &insn)?,
+            None => push(&mut whole, &begins.moved(insn, slot, at)?)?,
+        }
+        is_second = insn.is_wide() && !is_second;
+    }
+    let frame = deepest(frame, copies.as_slice());
+    Ok(Made { text: whole, frame })
+}
+
+/// How much stack is used by a function, its own or that of a copy.
+fn deepest(frame: i16, copies: &[Option<Copied>]) -> i16 {
+    let mut deepest = frame;
+    for copied in copies.iter().flatten() {
+        deepest = deepest.max(copied.end);
+    }
+    deepest
+}
+
+/// For each slot of a function the copy that stands at its call, if it calls a function.
+fn copies_of(
+    alloc: Global,
+    function: &Function<'_>,
+    frame: i16,
+    made: &[Option<Made>],
+) -> Result<Vec<Option<Copied>>, NotInlined> {
+    let text = function.text;
+    let live = live(alloc, text)?;
+    let mut copies = Vec::new(alloc);
+    let mut slots: usize = 0;
+    let mut is_second = false;
+    for slot in 0..text.len() / 8 {
+        let Some(insn) = Insn::at(text, slot) else {
+            continue;
+        };
+        let is_call = !is_second && insn.calls_function();
+        is_second = insn.is_wide() && !is_second;
+        if !is_call {
+            copies.push(None)?;
+            continue;
+        }
+        let Some(called) = called_at(function, slot, made) else {
+            return Err(Stop::UnknownCall.at(slot));
+        };
+        let saved = live_after(&insn, slot, live.as_slice()) & written(called.text.as_slice());
+        let shift = frame.saturating_add(size_of(saved));
+        let end = shift.saturating_add(called.frame);
+        if end > STACK {
+            return Err(Stop::StackSize.at(slot));
+        }
+        let copy = copied(alloc, called.text.as_slice(), shift)?;
+        slots = slots.saturating_add(copy.len() / 8);
+        if slots > MOST_SLOTS {
+            return Err(Stop::TooLong.at(slot));
+        }
+        copies.push(Some(Copied { saved, copy, end }))?;
+    }
+    Ok(copies)
+}
+
+/// The text that is called at a slot.
+fn called_at<'a>(
+    function: &Function<'_>,
+    slot: usize,
+    made: &'a [Option<Made>],
+) -> Option<&'a Made> {
+    let call = function.calls.iter().find(|call| call.slot == slot)?;
+    match made.get(call.function) {
+        Some(Some(called)) => Some(called),
+        _ => None,
+    }
+}
+
+/// Appends a copy between stores of the registers that it saves, below the frame, and loads of them.
+fn push_copy(copied: &Copied, frame: i16, whole: &mut Vec<u8>) -> Result<(), NotInlined> {
+    let mut offset = frame.saturating_neg();
+    for register in KEPT_REGISTERS {
+        if copied.saved & bit(register) != 0 {
+            offset = offset.saturating_sub(8);
+            push(whole, &Insn::save(register, offset))?;
+        }
+    }
+    whole.extend_from_slice(copied.copy.as_slice())?;
+    let mut offset = frame.saturating_neg();
+    for register in KEPT_REGISTERS {
+        if copied.saved & bit(register) != 0 {
+            offset = offset.saturating_sub(8);
+            push(whole, &Insn::restore(register, offset))?;
+        }
+    }
+    Ok(())
+}
+
+/// The bytes of the stack in which registers are saved.
+fn size_of(registers: u16) -> i16 {
+    let mut size: i16 = 0;
+    for register in KEPT_REGISTERS {
+        if registers & bit(register) != 0 {
+            size = size.saturating_add(8);
+        }
+    }
+    size
+}

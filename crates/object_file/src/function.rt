@@ -1,0 +1,186 @@
+//! Which function of an object file is the program.
+
+use crate::error::{Cause, ObjectError, shown};
+use crate::object::{Object, Section, Symbol, Symbols};
+use std::alloc::Global;
+
+/// A function: as many bytes of a section, from an offset on.
+#[derive(Clone, Copy)]
+pub(crate) struct Function {
+    pub section: usize,
+    pub begin: usize,
+    pub size: usize,
+}
+
+/// Which functions are looked at: those that other files see, in one section, in all named by SEC, or in .text.
+#[derive(Clone, Copy)]
+enum Among {
+    Section(usize),
+    Sections,
+    Text,
+}
+
+/// The function that is the program: the one with a chosen name, the one of the section with that name, or else the only one in
+/// sections with names of their own, or else the only one in .text. Of several none is taken.
+pub(crate) fn chosen(
+    alloc: Global,
+    object: &Object<'_>,
+    symbols: &Symbols<'_>,
+    name: Option<&str>,
+) -> Result<Function, ObjectError> {
+    let Some(name) = name else {
+        if let Some(function) = only(alloc, object, symbols, Among::Sections)? {
+            return Ok(function);
+        }
+        return match only(alloc, object, symbols, Among::Text)? {
+            Some(function) => Ok(function),
+            None => Err(ObjectError::at(0, 0, Cause::NoFunction)),
+        };
+    };
+    if let Some(section) = object.named(name.as_bytes())? {
+        if section.is_text() {
+            return in_section(alloc, object, symbols, &section);
+        }
+    }
+    match by_name(object, symbols, name.as_bytes())? {
+        Some(function) => Ok(function),
+        None => Err(ObjectError::at(0, 0, Cause::NoSuchFunction(shown(alloc, name.as_bytes())?))),
+    }
+}
+
+/// The only function of a section, or the section itself where no symbol says what its functions are.
+fn in_section(
+    alloc: Global,
+    object: &Object<'_>,
+    symbols: &Symbols<'_>,
+    section: &Section,
+) -> Result<Function, ObjectError> {
+    let found = only(alloc, object, symbols, Among::Section(section.number))?;
+    Ok(found.unwrap_or(Function {
+        section: section.number,
+        begin: 0,
+        size: section.size,
+    }))
+}
+
+/// The only function among some.
+fn only(
+    alloc: Global,
+    object: &Object<'_>,
+    symbols: &Symbols<'_>,
+    among: Among,
+) -> Result<Option<Function>, ObjectError> {
+    let mut found: Option<Symbol> = None;
+    for number in 0..symbols.count() {
+        let symbol = symbols.symbol(number)?;
+        if !is_among(object, &symbol, among)? {
+            continue;
+        }
+        if let Some(first) = found {
+            let first = shown(alloc, symbols.name(&first)?)?;
+            let second = shown(alloc, symbols.name(&symbol)?)?;
+            let cause = Cause::SeveralFunctions(first, second);
+            return Err(ObjectError::at(symbol.section, symbol.value, cause));
+        }
+        found = Some(symbol);
+    }
+    match found {
+        Some(symbol) => Ok(Some(function_of(object, &symbol)?)),
+        None => Ok(None),
+    }
+}
+
+/// Whether a symbol is that of a function among some.
+fn is_among(object: &Object<'_>, symbol: &Symbol, among: Among) -> Result<bool, ObjectError> {
+    if !symbol.is_function() || !symbol.is_global() || symbol.is_undefined() {
+        return Ok(false);
+    }
+    let section = object.section(symbol.section)?;
+    if !section.is_text() {
+        return Ok(false);
+    }
+    match among {
+        Among::Section(number) => Ok(number == section.number),
+        Among::Sections => Ok(object.name(&section)? != b".text".as_slice()),
+        Among::Text => Ok(object.name(&section)? == b".text".as_slice()),
+    }
+}
+
+/// The function of a name.
+fn by_name(
+    object: &Object<'_>,
+    symbols: &Symbols<'_>,
+    name: &[u8],
+) -> Result<Option<Function>, ObjectError> {
+    for number in 0..symbols.count() {
+        let symbol = symbols.symbol(number)?;
+        if symbol.is_function() && !symbol.is_undefined() && symbols.name(&symbol)? == name {
+            return Ok(Some(function_of(object, &symbol)?));
+        }
+    }
+    Ok(None)
+}
+
+/// The function of a symbol. One without a size reaches to its section's end.
+fn function_of(object: &Object<'_>, symbol: &Symbol) -> Result<Function, ObjectError> {
+    let section = object.section(symbol.section)?;
+    let size = match symbol.size {
+        0 => section.size.saturating_sub(symbol.value),
+        size => size,
+    };
+    Ok(Function {
+        section: section.number,
+        begin: symbol.value,
+        size,
+    })
+}
+
+/// The most functions of a program.
+pub(crate) const MOST_FUNCTIONS: usize = 256;
+
+/// The functions of a program, in the order in which they are first called.
+#[derive(Drop)]
+pub(crate) struct Functions {
+    pub list: Vec<Function>,
+}
+
+impl Functions {
+    /// The number of the function that begins at an offset of a section. It is added if it isn't known.
+    pub fn number_of(
+        &mut self,
+        object: &Object<'_>,
+        symbols: &Symbols<'_>,
+        section: usize,
+        begin: usize,
+    ) -> Result<usize, ObjectError> {
+        for (number, known) in self.list.iter().enumerate() {
+            if known.section == section && known.begin == begin {
+                return Ok(number);
+            }
+        }
+        if self.list.len() >= MOST_FUNCTIONS {
+            return Err(ObjectError::at(section, begin, Cause::TooManyFunctions));
+        }
+        let Some(function) = beginning_at(object, symbols, section, begin)? else {
+            return Err(ObjectError::at(section, begin, Cause::CallOut));
+        };
+        self.list.push(function)?;
+        Ok(self.list.len() - 1)
+    }
+}
+
+/// The function that begins at an offset of a section.
+fn beginning_at(
+    object: &Object<'_>,
+    symbols: &Symbols<'_>,
+    section: usize,
+    begin: usize,
+) -> Result<Option<Function>, ObjectError> {
+    for number in 0..symbols.count() {
+        let symbol = symbols.symbol(number)?;
+        if symbol.is_function() && symbol.section == section && symbol.value == begin {
+            return Ok(Some(function_of(object, &symbol)?));
+        }
+    }
+    Ok(None)
+}

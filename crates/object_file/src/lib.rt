@@ -1,0 +1,22 @@
+//! A program for this host from an object file: ELF64, little-endian, relocatable, for BPF, as `clang -target bpf -c` makes them
+//! (System V ABI, chapters 4 and 5; the kernel's docs/bpf: llvm_reloc, btf; libbpf for maps and global variables).
+#![tactic(auto)]
+
+mod btf;
+mod data;
+mod definition;
+mod error;
+mod field;
+mod function;
+mod instruction;
+mod legacy;
+mod map;
+mod object;
+mod program;
+mod relocation;
+mod text;
+
+pub use error::{Cause, Location, ObjectError};
+pub use map::Map;
+pub use program::{Program, program_of};
+pub use text::{Call, Text};
