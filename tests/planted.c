@@ -9,7 +9,7 @@
  *     8  a refusal for want of frames doesn't say how many may be had */
 #include "bpf_host.h"
 
-enum { NO_FRAMES = 31, NO_MAP = 34, BUSY = 36, NO_RUN = 37, TENANTS = 3 };
+enum { NO_FRAMES = 31, NO_MAP = 34, BUSY = 36, NO_RUN = 37, TENANTS = 3, NO_PROGRAM_HAS = 99 };
 
 uint32_t __real_bpf_host_update(struct bpf_host *host, uint32_t tenant, uint32_t map, uint32_t key, const uint8_t *value, size_t value_len,
                                 struct bpf_host_refused *refused);
@@ -57,9 +57,7 @@ uint32_t __wrap_bpf_host_run(struct bpf_host *host, uint32_t tenant, uint32_t pr
                              struct bpf_host_run *run, struct bpf_host_refused *refused)
 {
     struct bpf_host_counters counters;
-    struct bpf_host_run other;
-    bool ended;
-    if (PLANT == 6 || (PLANT == 4 && __real_bpf_host_step(host, next_tenant(tenant), 0, &ended, &other) != NO_RUN))
+    if (PLANT == 6 || (PLANT == 4 && bpf_host_unload(host, next_tenant(tenant), NO_PROGRAM_HAS) == BUSY))
         return BUSY;
     uint32_t code = __real_bpf_host_run(host, tenant, program, context, context_len, run, refused);
     if (PLANT == 3 && code == 0 && bpf_host_counters(host, &counters) == 0)

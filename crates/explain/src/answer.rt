@@ -1,14 +1,14 @@
 //! The answer to a request.
 
 use crate::folds::folded;
-use crate::view::{View, write_view};
+use crate::view::{Shown, Words, write_view};
 use command_line::{Asked, ToExplain, explained_of};
 use engines::check::{CheckRequest, check, check_request_of};
 use engines::written;
 use findings::CheckedText;
 use hex::encode;
 use host_file::FileFault;
-use listing::{Beside, Paint};
+use listing::{Beside, Listing, Paint};
 use lowered_text::{Copies, lowered, write_stop};
 use lowering::Lowered;
 use program_source::{hex_of, words_fault};
@@ -67,14 +67,20 @@ fn explain<W: Write>(
         shapes: request.shapes.as_slice(),
         context_size: request.context_size,
     };
-    let view = View {
-        asked,
+    let listing = Listing::of(alloc, &checked, None);
+    let shown = Shown {
         paint,
-        checked,
-        beside: None,
-        note: note.as_slice(),
+        is_lowered: false,
     };
-    show(alloc, hex, &view, output)
+    show(
+        alloc,
+        asked,
+        hex,
+        shown,
+        listing.as_ref(),
+        note.as_slice(),
+        output,
+    )
 }
 
 /// Explains a lowered text in the same way, with the slots of the original beside its own. Of the copies of a loop the
@@ -93,41 +99,53 @@ fn explain_lowered<W: Write>(
         lowered,
     };
     let folded = folded(alloc, &copies)?;
+    let beside = Beside {
+        origins: lowered.origins.as_slice(),
+        folded: folded.as_slice(),
+    };
     let checked = CheckedText {
         text: lowered.text.as_slice(),
         shapes: request.shapes.as_slice(),
         context_size: request.context_size,
     };
-    let view = View {
-        asked,
+    let listing = Listing::of(alloc, &checked, Some(beside));
+    let shown = Shown {
         paint,
-        checked,
-        beside: Some(Beside {
-            origins: lowered.origins.as_slice(),
-            folded: folded.as_slice(),
-        }),
-        note: &[],
+        is_lowered: true,
     };
-    show(alloc, hex.as_str(), &view, output)
+    show(
+        alloc,
+        asked,
+        hex.as_str(),
+        shown,
+        listing.as_ref(),
+        &[],
+        output,
+    )
 }
 
-/// Verifies the program of a hex text, and shows it. Answers the status of `check`.
+/// Verifies the program of a hex text, and shows it with its listing. Answers the status of `check`.
 fn show<W: Write>(
     alloc: Global,
+    asked: &ToExplain<'_>,
     hex: &str,
-    view: &View<'_>,
+    shown: Shown,
+    listing: Option<&Listing<'_>>,
+    note: &[u8],
     output: &mut W,
 ) -> Result<u8, FileFault> {
-    let mut line = Vec::new(alloc);
-    let mut meant = Vec::new(alloc);
+    let mut words = Words {
+        line: Vec::new(alloc),
+        meant: Vec::new(alloc),
+    };
     let status = check(
         alloc,
         hex,
-        view.asked.shapes.as_slice(),
-        view.asked.context,
-        &mut line,
-        &mut meant,
+        asked.shapes.as_slice(),
+        asked.context,
+        &mut words.line,
+        &mut words.meant,
     )?;
-    written(write_view(alloc, output, view, line.as_slice(), meant.as_slice()))?;
+    written(write_view(alloc, output, asked, shown, listing, &words, note))?;
     Ok(status)
 }

@@ -1,39 +1,50 @@
 //! What is shown of a program, as text or as a page.
 
 use command_line::ToExplain;
-use findings::CheckedText;
-use listing::{Beside, Detail, Listing, Paint, Text, fold};
+use listing::{Detail, Listing, Paint, Text, fold};
 use listing_page::{Page, write_page};
 use std::alloc::{AllocError, Global};
 use std::io::{self, Write};
 use terminal_text::quoted;
 
-/// What is to be shown.
+/// How a program is shown.
 #[derive(Clone, Copy)]
-pub struct View<'a> {
-    pub asked: &'a ToExplain<'a>,
+pub struct Shown {
     pub paint: Paint,
-    pub checked: CheckedText<'a>,
-    /// What is shown of a lowered text beside its slots.
-    pub beside: Option<Beside<'a>>,
-    /// What stopped a lowering, or nothing.
-    pub note: &'a [u8],
+    /// Whether it is what the lowering made.
+    pub is_lowered: bool,
 }
 
-/// Writes the line of `check` for a program, its listing, and what a refusal means.
+/// What `check` writes of a program.
+#[derive(Drop)]
+pub struct Words {
+    /// The line of its verdict.
+    pub line: Vec<u8>,
+    /// What a refusal means.
+    pub meant: Vec<u8>,
+}
+
+/// Writes the line of `check` for a program, its listing, what a refusal means, and a note on what stopped a lowering.
 pub fn write_view<W: Write>(
     alloc: Global,
     output: &mut W,
-    view: &View<'_>,
-    line: &[u8],
-    meant: &[u8],
+    asked: &ToExplain<'_>,
+    shown: Shown,
+    listing: Option<&Listing<'_>>,
+    words: &Words,
+    note: &[u8],
 ) -> io::Result<()> {
-    let listing = Listing::of(alloc, &view.checked, view.beside);
-    if view.asked.html {
-        write_html(alloc, output, view, line, meant, listing.as_ref())?;
+    if asked.html {
+        write_html(alloc, output, asked, shown.is_lowered, listing, words, note)?;
     } else {
-        output.write_all(line)?;
-        write_text(output, view, meant, listing.as_ref())?;
+        let detail = if asked.all { Detail::All } else { Detail::Read };
+        let text = Text {
+            detail,
+            paint: shown.paint,
+        };
+        output.write_all(words.line.as_slice())?;
+        write_text(output, text, listing, words.meant.as_slice())?;
+        write_words(output, note)?;
     }
     output.flush()
 }
@@ -41,26 +52,18 @@ pub fn write_view<W: Write>(
 /// Writes a listing as text, with what a refusal means after the slot that is refused.
 fn write_text<W: Write>(
     output: &mut W,
-    view: &View<'_>,
-    meant: &[u8],
+    text: Text,
     listing: Option<&Listing<'_>>,
+    meant: &[u8],
 ) -> io::Result<()> {
-    let text = Text {
-        detail: if view.asked.all {
-            Detail::All
-        } else {
-            Detail::Read
-        },
-        paint: view.paint,
-    };
     if let Some(listing) = listing {
         text.write_rows(output, listing)?;
     }
     write_words(output, meant)?;
-    if let Some(listing) = listing {
-        text.write_further(output, listing)?;
+    match listing {
+        Some(listing) => text.write_further(output, listing),
+        None => Ok(()),
     }
-    write_words(output, view.note)
 }
 
 /// Writes words in lines of at most 100 columns, if there are any.
@@ -75,23 +78,23 @@ fn write_words<W: Write>(output: &mut W, words: &[u8]) -> io::Result<()> {
 fn write_html<W: Write>(
     alloc: Global,
     output: &mut W,
-    view: &View<'_>,
-    line: &[u8],
-    meant: &[u8],
+    asked: &ToExplain<'_>,
+    is_lowered: bool,
     listing: Option<&Listing<'_>>,
+    words: &Words,
+    note: &[u8],
 ) -> io::Result<()> {
-    let asked = view.asked;
     let program = program_named(alloc, asked.hex)?;
     let page = Page {
         alloc,
         program: program.as_str(),
-        verdict: text_of(line),
-        is_accepted: line.starts_with(b"accepted"),
-        said: text_of(meant),
-        note: text_of(view.note),
+        verdict: text_of(words.line.as_slice()),
+        is_accepted: words.line.starts_with(b"accepted"),
+        said: text_of(words.meant.as_slice()),
+        note: text_of(note),
         shapes: asked.shapes.as_slice(),
         context: asked.context,
-        is_lowered: view.beside.is_some(),
+        is_lowered,
         shows_all: asked.all,
         listing,
     };

@@ -9,13 +9,19 @@ use std::fmt::Debug;
 use std::io;
 use std::io::Input;
 
-/// The path of the program, which is longer than what is printed of a word.
-const PATH: &str = "/home/someone/projects/bpf_host/crates/bpf_host/out/bpf_host";
+/// The path of `bpf_host`, which is longer than what is printed of a word.
+const BPF_HOST: &str = "/home/someone/projects/bpf_host/crates/bpf_host/out/bpf_host";
 
-/// The words of a line, after the program's path.
-fn words_of(alloc: Global, line: &str) -> Result<Vec<String>, AllocError> {
+/// That of `explain`.
+const EXPLAIN: &str = "/home/someone/projects/bpf_host/crates/explain/out/explain";
+
+/// That of `lower`.
+const LOWER: &str = "/home/someone/projects/bpf_host/crates/lower/out/lower";
+
+/// The words of a line, after the path of a program.
+fn words_of(alloc: Global, path: &str, line: &str) -> Result<Vec<String>, AllocError> {
     let mut words = Vec::new(alloc);
-    words.push(String::from_str(alloc, PATH)?)?;
+    words.push(String::from_str(alloc, path)?)?;
     for word in line.split('|').filter(|_| !line.is_empty()) {
         words.push(String::from_str(alloc, word)?)?;
     }
@@ -26,14 +32,14 @@ fn words_of(alloc: Global, line: &str) -> Result<Vec<String>, AllocError> {
 fn print_asked(rt: &(impl AllocGlobal + Print), line: &str) -> io::Result<()> {
     println!(rt; "$ {}", line.escape_debug())?;
     if let Some(words) = line.strip_prefix("explain") {
-        let words = words_of(rt.alloc(), words.trim_start())?;
+        let words = words_of(rt.alloc(), EXPLAIN, words.trim_start())?;
         return print_asked_of(rt, explained_of(rt.alloc(), words.as_slice()));
     }
     if let Some(words) = line.strip_prefix("lower") {
-        let words = words_of(rt.alloc(), words.trim_start())?;
+        let words = words_of(rt.alloc(), LOWER, words.trim_start())?;
         return print_asked_of(rt, lowered_of(rt.alloc(), words.as_slice()));
     }
-    let words = words_of(rt.alloc(), line)?;
+    let words = words_of(rt.alloc(), BPF_HOST, line)?;
     print_answer(rt, request_of(rt.alloc(), words.as_slice()))
 }
 

@@ -6,7 +6,7 @@ abbrev pub CallsNoFunction : List ℕ → ℕ → Type 0
 CallsNoFunction text slot = (slice_index text (8 * slot) ≢ 0x85) ⊎ (slice_index text (8 * slot + 1) / 16 ≢ 1)
 
 -- a text of whole slots, at most 4096 of them, without such calls
-pub record IsWhole (text : List ℕ) : Type 0 where
+pub record IsWholeText (text : List ℕ) : Type 0 where
   pub slots : length text % 8 ≡ 0
   pub short : length text ≤ 32768
   pub no_calls : (slot : ℕ) → slot < length text / 8 → CallsNoFunction text slot

@@ -1,7 +1,7 @@
 //! Functions in the order in which copies of them are made: each after those that it calls.
 
 ghost use Rattle.std.specs.Prelude.{IfOk, IsTrue};
-ghost use Rattle.inlining.specs.Whole.{IsWhole};
+ghost use Rattle.inlining.specs.Whole.{IsWholeText};
 
 use crate::copying::copied;
 use crate::expansion::{Begins, MOST_SLOTS, push};
@@ -34,7 +34,7 @@ struct Made {
 
 /// One text of function 0 and of those that it calls.
 pub fn inlined(alloc: Global, functions: &[Function<'_>]) -> Result<Vec<u8>, NotInlined>
-    ensures { IfOk result (λ text. IsWhole text.items) }
+    ensures { IfOk result (λ text. IsWholeText text.items) }
 {
     let mut made: Vec<Option<Made>> = Vec::new(alloc);
     for _function in functions {
@@ -52,7 +52,7 @@ pub fn inlined(alloc: Global, functions: &[Function<'_>]) -> Result<Vec<u8>, Not
 
 /// Whether a text has whole slots, at most 4096 of them, and no call of a function.
 fn is_whole(text: &[u8]) -> bool
-    ensures { IsTrue result → IsWhole text.now }
+    ensures { IsTrue result → IsWholeText text.now }
 {
     if text.len() % 8 != 0 || text.len() > 8 * MOST_SLOTS {
         return false;

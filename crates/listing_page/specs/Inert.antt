@@ -1,5 +1,5 @@
 -- Text from outside in a page: no byte of it begins a tag, a character reference, a comment or the end of a string.
-use Rattle.std.specs.Prelude.{◌≢◌, ℕ, ◌≤◌, ◌<◌, List, All}
+use Rattle.std.specs.Prelude.{◌≢◌, ℕ, ◌≤◌, ◌<◌}
 
 -- A byte of ASCII that prints, and that is neither `"`, `&`, `<` nor `>`.
 pub record IsInert (byte : ℕ) : Type 0 where

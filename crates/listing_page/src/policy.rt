@@ -4,4 +4,4 @@
 pub const STYLE_HASH: &str = "4y8YLlnEZdPhN64WnEWYaU/6Qe9Lxbkdf7HlOT+8KGM=";
 
 /// The SHA-256 of both parts of the script, one after the other.
-pub const SCRIPT_HASH: &str = "5giBAsfzI6L1Ef0VEvvRQrV5U5szrAmMHX2f5vI36u8=";
+pub const SCRIPT_HASH: &str = "S5KLGVbA2ShNYfBD7tr9qNUAHKbt9N8a/zm55pQjIjw=";

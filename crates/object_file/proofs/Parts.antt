@@ -2,9 +2,9 @@
 use Rattle.std.proofs.Common.{◌≡◌, ℕ, ◌+◌, ◌-◌, ◌<◌, ◌≤◌, ◌∙◌, ap, List, length, slice_index, arith}
 use Rattle.std.specs.List.{slice_range}
 use Rattle.std.proofs.lemmas.List.Edits.{get_or-between, length-between}
-use Rattle.object_file.specs.Numbers.{IsPart}
+use Rattle.object_file.specs.Numbers.{IsPartOfFile}
 
-pub part_of_range : (whole : List ℕ) (at size : ℕ) → at + size ≤ length whole → IsPart whole at (slice_range whole at (at + size))
+pub part_of_range : (whole : List ℕ) (at size : ℕ) → at + size ≤ length whole → IsPartOfFile whole at (slice_range whole at (at + size))
 part_of_range whole at size fits =
     let same : length (slice_range whole at (at + size)) ≡ at + size - at = length-between whole at (at + size) fits in
     record {
@@ -12,7 +12,7 @@ part_of_range whole at size fits =
       each = λ k h. get_or-between whole at (at + size) k 0 (omega (arith, same));
     }
 
-pub part_of_part : (whole middle part : List ℕ) (start at : ℕ) → IsPart whole start middle → IsPart middle at part → IsPart whole (start + at) part
+pub part_of_part : (whole middle part : List ℕ) (start at : ℕ) → IsPartOfFile whole start middle → IsPartOfFile middle at part → IsPartOfFile whole (start + at) part
 part_of_part whole middle part start at outer inner = record {
   within = omega (arith, outer.within, inner.within);
   each = λ k h.

@@ -3,7 +3,7 @@ use Rattle.std.proofs.Common.{◌≡◌, ℕ, ◌+◌, ◌%◌, ◌<◌, ◌≤�
 use Rattle.std.proofs.Math.Seq.{drop-append_seam, take-append_seam}
 use Rattle.std.proofs.lemmas.List.Elements.{All-drop, All-head, All-take}
 use Rattle.object_file.proofs.Parts.{part_of_part}
-use Rattle.object_file.specs.Numbers.{IsPart}
+use Rattle.object_file.specs.Numbers.{IsPartOfFile}
 use Rattle.object_file.specs.Texts.{IsBeside, IsFilled}
 use Rattle.object_file.specs.Programs.{IsTextOf}
 use Rattle.object_file.specs.declared.relocation.Filled.{Filled}
@@ -39,11 +39,11 @@ text_same file before after bytes begin filled stands = record {
   others_kept = rw (bytes, begin, filled) stands.others_kept;
 }
 
-pub text_fresh : (file contents bytes : List ℕ) (start begin : ℕ) (text : Text) → IsPart file start contents → IsPart contents begin bytes
+pub text_fresh : (file contents bytes : List ℕ) (start begin : ℕ) (text : Text) → IsPartOfFile file start contents → IsPartOfFile contents begin bytes
     → text.bytes.items ≡ bytes → text.begin ≡ start + begin → 1 ≤ length bytes → length bytes % 8 ≡ 0 → length bytes ≤ 32768
     → IsTextOf file text
 text_fresh file contents bytes start begin text outer inner is at some slots short =
-    let part : IsPart file (start + begin) bytes = part_of_part file contents bytes start begin outer inner in
+    let part : IsPartOfFile file (start + begin) bytes = part_of_part file contents bytes start begin outer inner in
     record {
       some = rw is some;
       slots = rw is slots;

@@ -9,6 +9,6 @@ pub record IsMap (map : Map) : Type 0 where
   pub first : (map.first.items ≡ []) ⊎ (length map.first.items ≡ map.shape.value_size)
 
 -- at most eight of them, as a tenant has
-pub record AreMaps (maps : List Map) : Type 0 where
+pub record AreShapedMaps (maps : List Map) : Type 0 where
   pub few : length maps ≤ 8
   pub each : All IsMap maps

@@ -3,10 +3,10 @@ use Rattle.std.specs.Prelude.{◌≡◌, ℕ, ◌+◌, ◌<◌, ◌≤◌, List,
 use Rattle.byteorder.specs.Endian.{little_number}
 
 -- the number of so many bytes at an offset
-unfoldable pub number_at : ℕ → List ℕ → ℕ → ℕ
-number_at size bytes at = little_number size (drop at bytes)
+unfoldable pub file_number_at : ℕ → List ℕ → ℕ → ℕ
+file_number_at size bytes at = little_number size (drop at bytes)
 
 -- the bytes that stand in others from an offset on
-pub record IsPart (whole : List ℕ) (at : ℕ) (part : List ℕ) : Type 0 where
+pub record IsPartOfFile (whole : List ℕ) (at : ℕ) (part : List ℕ) : Type 0 where
   pub within : at + length part ≤ length whole
   pub each : (k : ℕ) → k < length part → slice_index part k ≡ slice_index whole (at + k)

@@ -1,6 +1,6 @@
 -- The program of an object file.
 use Rattle.std.specs.Prelude.{◌≡◌, ℕ, ◌+◌, ◌%◌, ◌<◌, ◌≤◌, List, length, slice_index, All}
-use Rattle.object_file.specs.Maps.{AreMaps}
+use Rattle.object_file.specs.Maps.{AreShapedMaps}
 use Rattle.object_file.specs.Texts.{IsBeside}
 use Rattle.object_file.specs.declared.program.Program.{Program}
 use Rattle.object_file.specs.declared.text.Text.{Text}
@@ -21,4 +21,4 @@ AreTextsOf file texts = All (IsTextOf file) texts
 -- a program: texts that stand in the file, and maps that a tenant may have
 pub record IsProgramOf (file : List ℕ) (program : Program) : Type 0 where
   pub texts : AreTextsOf file program.texts.items
-  pub maps : AreMaps program.maps.items
+  pub maps : AreShapedMaps program.maps.items

@@ -3,7 +3,7 @@ use Rattle.std.specs.Prelude.{◌≡◌, ◌≢◌, ℕ, ◌+◌, ◌*◌, ◌/�
 use Rattle.object_file.specs.declared.relocation.Filled.{Filled}
 
 -- bytes with a number of four of them written at an offset, the lowest first
-pub record IsPut (before after : List ℕ) (at number : ℕ) : Type 0 where
+pub record IsFilledIn (before after : List ℕ) (at number : ℕ) : Type 0 where
   pub same_length : length after ≡ length before
   pub lowest : slice_index after at ≡ number % 256
   pub second : slice_index after (at + 1) ≡ number / 256 % 256

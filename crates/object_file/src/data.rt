@@ -1,7 +1,7 @@
 //! Global variables: each section of them is the one value of a map, as libbpf has it, but that all read-only sections are one.
 
 ghost use Rattle.std.specs.Prelude.{◌≡◌, ◌⊎◌, [], length};
-ghost use Rattle.object_file.specs.Maps.{AreMaps};
+ghost use Rattle.object_file.specs.Maps.{AreShapedMaps};
 
 use crate::error::{Cause, ObjectError};
 use crate::map::{Maps, Reach};
@@ -48,7 +48,7 @@ pub(crate) fn add_globals(
     object: &Object<'_>,
     maps: &mut Maps,
 ) -> Result<(), ObjectError>
-    ensures { AreMaps maps.old.maps.items → AreMaps maps.new.maps.items }
+    ensures { AreShapedMaps maps.old.maps.items → AreShapedMaps maps.new.maps.items }
 {
     let mut read_only = None;
     for number in 0..object.sections {
@@ -72,7 +72,7 @@ fn add_alone(
     section: &Section,
     maps: &mut Maps,
 ) -> Result<(), ObjectError>
-    ensures { AreMaps maps.old.maps.items → AreMaps maps.new.maps.items }
+    ensures { AreShapedMaps maps.old.maps.items → AreShapedMaps maps.new.maps.items }
 {
     let name = object.name(section)?;
     let map = if section.kind == NOBITS {
@@ -91,7 +91,7 @@ fn add_read_only(
     first: usize,
     maps: &mut Maps,
 ) -> Result<(), ObjectError>
-    ensures { AreMaps maps.old.maps.items → AreMaps maps.new.maps.items }
+    ensures { AreShapedMaps maps.old.maps.items → AreShapedMaps maps.new.maps.items }
 {
     let map = maps.next();
     let mut bytes: Vec<u8> = Vec::new(alloc);
@@ -138,7 +138,7 @@ fn add_value(
     maps: &mut Maps,
 ) -> Result<u32, ObjectError>
     requires { (contents.now ≡ []) ⊎ (length contents.now ≡ size) }
-    ensures { AreMaps maps.old.maps.items → AreMaps maps.new.maps.items }
+    ensures { AreShapedMaps maps.old.maps.items → AreShapedMaps maps.new.maps.items }
 {
     if size > MAX_VALUE_SIZE as usize {
         return Err(ObjectError::at(section, 0, Cause::GlobalsSize(size)));

@@ -1,6 +1,6 @@
 //! Maps that a section .maps defines by types (libbpf: parse_btf_map_def).
 
-ghost use Rattle.object_file.specs.Maps.{AreMaps};
+ghost use Rattle.object_file.specs.Maps.{AreShapedMaps};
 
 use crate::btf::{ARRAY, Btf, POINTER, SECTION, STRUCT, Type, VARIABLE};
 use crate::error::{Cause, ObjectError, shown};
@@ -63,7 +63,7 @@ pub(crate) fn add_defined(
     symbols: &Symbols<'_>,
     maps: &mut Maps,
 ) -> Result<(), ObjectError>
-    ensures { AreMaps maps.old.maps.items → AreMaps maps.new.maps.items }
+    ensures { AreShapedMaps maps.old.maps.items → AreShapedMaps maps.new.maps.items }
 {
     let Some(defined) = object.named(b".maps")? else {
         return Ok(());
@@ -108,7 +108,7 @@ fn add_map(
     members: &Type,
     maps: &mut Maps,
 ) -> Result<(), ObjectError>
-    ensures { AreMaps maps.old.maps.items → AreMaps maps.new.maps.items }
+    ensures { AreShapedMaps maps.old.maps.items → AreShapedMaps maps.new.maps.items }
 {
     let Some(symbol) = symbols.named(section, name)? else {
         return Err(ObjectError::at(section, 0, Cause::NoMapSymbol(shown(alloc, name)?)));

@@ -1,7 +1,7 @@
 //! Maps that a section `maps` defines by numbers (struct bpf_map_def of older libraries): type, key_size, value_size, max_entries
 //! and map_flags, of 32 bits each.
 
-ghost use Rattle.object_file.specs.Maps.{AreMaps};
+ghost use Rattle.object_file.specs.Maps.{AreShapedMaps};
 
 use crate::definition::Definition;
 use crate::error::{Cause, ObjectError, shown};
@@ -20,7 +20,7 @@ pub(crate) fn add_legacy(
     symbols: &Symbols<'_>,
     maps: &mut Maps,
 ) -> Result<(), ObjectError>
-    ensures { AreMaps maps.old.maps.items → AreMaps maps.new.maps.items }
+    ensures { AreShapedMaps maps.old.maps.items → AreShapedMaps maps.new.maps.items }
 {
     let Some(section) = object.named(b"maps")? else {
         return Ok(());
@@ -43,7 +43,7 @@ fn add_map(
     symbol: &Symbol,
     maps: &mut Maps,
 ) -> Result<(), ObjectError>
-    ensures { AreMaps maps.old.maps.items → AreMaps maps.new.maps.items }
+    ensures { AreShapedMaps maps.old.maps.items → AreShapedMaps maps.new.maps.items }
 {
     let section = symbol.section;
     let Some(definition) = definition_at(contents, symbol) else {

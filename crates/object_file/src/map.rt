@@ -1,7 +1,7 @@
 //! The maps of an object file, and which addresses of its sections are in them.
 
 ghost use Rattle.std.specs.Prelude.{◌≡◌, ◌+◌, ◌<◌, ◌≤◌, IfOk, All, vec_len, ◌⊎◌, [], length};
-ghost use Rattle.object_file.specs.Maps.{AreMaps, IsMap};
+ghost use Rattle.object_file.specs.Maps.{AreShapedMaps, IsMap};
 
 use crate::error::{Cause, ObjectError, shown};
 use host_types::Shape;
@@ -43,7 +43,7 @@ pub(crate) struct Maps {
 
 impl Maps {
     pub fn new(alloc: Global) -> Self
-        ensures { AreMaps result.maps.items }
+        ensures { AreShapedMaps result.maps.items }
     {
         Maps {
             maps: Vec::new(alloc),
@@ -61,7 +61,7 @@ impl Maps {
         first: &[u8],
     ) -> Result<u32, ObjectError>
         requires { (first.now ≡ []) ⊎ (length first.now ≡ shape.value_size) }
-        ensures kept { AreMaps self.old.maps.items → AreMaps self.new.maps.items }
+        ensures kept { AreShapedMaps self.old.maps.items → AreShapedMaps self.new.maps.items }
     {
         if self.maps.len() >= MAX_MAPS {
             return Err(ObjectError::at(section, 0, Cause::TooManyMaps));
@@ -83,7 +83,7 @@ impl Maps {
 
     /// Adds what addresses of a section stand for.
     pub fn aim(&mut self, section: usize, reach: Reach, map: u32) -> Result<(), ObjectError>
-        ensures { AreMaps self.old.maps.items → AreMaps self.new.maps.items }
+        ensures { AreShapedMaps self.old.maps.items → AreShapedMaps self.new.maps.items }
     {
         self.targets.push(Target {
             section,

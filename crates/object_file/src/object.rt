@@ -3,7 +3,7 @@
 
 ghost use Rattle.std.specs.Prelude.{◌≡◌, IfOk, IfSome};
 ghost use Rattle.object_file.specs.Names.{IsNameAt};
-ghost use Rattle.object_file.specs.Numbers.{IsPart};
+ghost use Rattle.object_file.specs.Numbers.{IsPartOfFile};
 
 use crate::error::{Cause, ObjectError};
 use crate::field::{part_at, u16_at, u32_at, u64_at, usize_at};
@@ -155,7 +155,7 @@ impl<'a> Object<'a> {
 
     /// The bytes of a section in the file. One of zeros (SHT_NOBITS) has none.
     pub fn contents(&self, section: &Section) -> Result<&'a [u8], ObjectError>
-        ensures { IfOk result (λ contents. IsPart self.now.bytes.now section.now.start contents.now) }
+        ensures { IfOk result (λ contents. IsPartOfFile self.now.bytes.now section.now.start contents.now) }
     {
         let size = if section.kind == NOBITS {
             0

@@ -1,7 +1,7 @@
 //! The program of an object file.
 
 ghost use Rattle.std.specs.Prelude.{IfOk};
-ghost use Rattle.object_file.specs.Maps.{AreMaps};
+ghost use Rattle.object_file.specs.Maps.{AreShapedMaps};
 ghost use Rattle.object_file.specs.Programs.{AreTextsOf, IsProgramOf};
 
 use crate::data::add_globals;
@@ -73,7 +73,7 @@ fn texts_of(
 
 /// The maps of an object file: first those that .maps and `maps` define, then global variables.
 fn maps_of(alloc: Global, object: &Object<'_>, symbols: &Symbols<'_>) -> Result<Maps, ObjectError>
-    ensures { IfOk result (λ maps. AreMaps maps.maps.items) }
+    ensures { IfOk result (λ maps. AreShapedMaps maps.maps.items) }
 {
     let mut maps = Maps::new(alloc);
     add_defined(alloc, object, symbols, &mut maps)?;

@@ -2,7 +2,7 @@
 
 ghost use Rattle.std.specs.Prelude.{◌≡◌, ◌+◌, ◌<◌, ◌≤◌, ℕ, List, length, vec_len, IfOk, IfSome};
 ghost use Rattle.object_file.specs.Programs.{IsTextOf};
-ghost use Rattle.object_file.specs.Texts.{IsFilled, IsPut};
+ghost use Rattle.object_file.specs.Texts.{IsFilled, IsFilledIn};
 
 use crate::error::{Cause, ObjectError};
 use crate::field::{part_at, u32_at};
@@ -45,7 +45,7 @@ pub(crate) struct Tables<'a> {
 /// Writes a number of four bytes at an offset.
 fn put(bytes: &mut [u8], at: usize, number: u32)
     requires { at + 4 ≤ length bytes.old }
-    ensures { IsPut bytes.old bytes.new at number }
+    ensures { IsFilledIn bytes.old bytes.new at number }
 {
     bytes[at] = (number % 256) as u8;
     bytes[at + 1] = (number / 256 % 256) as u8;

@@ -104,8 +104,8 @@ static void print_counters(void)
 {
     struct bpf_host_counters c;
     is_refused(bpf_host_counters(&host, &c), false);
-    printf("full_scans %" PRIu64 "\npages_shared %u\npages_sharing %u\npages_unshared %u\npages_volatile %u\n", c.full_scans, c.pages_shared,
-           c.pages_sharing, c.pages_unshared, c.pages_volatile);
+    printf("pages_shared %u\npages_sharing %u\npages_unshared %u\npages_volatile %u\nfull_scans %" PRIu64 "\n", c.pages_shared, c.pages_sharing,
+           c.pages_unshared, c.pages_volatile, c.full_scans);
     printf("ksm_zero_pages %u\nstable_node_chains %u\nstable_node_dups %u\nframes_free %u\n", c.ksm_zero_pages, c.stable_node_chains,
            c.stable_node_dups, c.frames_free);
 }

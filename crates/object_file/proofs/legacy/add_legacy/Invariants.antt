@@ -1,5 +1,5 @@
-use Rattle.object_file.specs.Maps.{AreMaps}
+use Rattle.object_file.specs.Maps.{AreShapedMaps}
 use Rattle.object_file.proofs.legacy.add_legacy.Given as goal
 
 abbrev pub invariant-loop-number : goal.invariant-loop-number
-invariant-loop-number l = AreMaps l.initial.maps.maps.items → AreMaps l.maps.maps.items
+invariant-loop-number l = AreShapedMaps l.initial.maps.maps.items → AreShapedMaps l.maps.maps.items
