@@ -32,7 +32,7 @@ fn time<R: Clock + Threads + Wait + Sync, J: Job + Send>(
         rt,
         jobs,
         threads,
-        &|_entry_index: usize, job: &mut J| job.work(rt, each),
+        &|_index: usize, job: &mut J| job.work(rt, each),
     );
     start.elapsed(rt)
 }

@@ -27,7 +27,7 @@ use Rattle.host_core.specs.declared.reply.Reply.TheVariants.{Done, Refused}
 use Rattle.host_core.specs.World.{Tenant, System, names_there, is_used, owned_by, program_at}
 use Rattle.host_core.specs.Happens.{unload_refusal, drop_refusal, changed_system}
 use Rattle.host_core.specs.HostView.{TenantView, EachProgram, StandsForTenant, IsKept, IsServed, names_in}
-use Rattle.host_core.proofs.EntryIndices.{list_any-map, map-set, none-at}
+use Rattle.host_core.proofs.Indices.{list_any-map, map-set, none-at}
 use Rattle.host_core.proofs.Worlds.{OfTenant-there, RefusedOr-refused, RefusedOr-else}
 use Rattle.host_core.proofs.Systems.{part_stands, many_stands, changed_stands}
 use Rattle.host_core.proofs.Serving.{HasKept, is_some-run, served-same, still_idle, with_named_maps}
@@ -70,8 +70,8 @@ module _ (t k : ℕ) (old : TenantView) (memory : MemoryState) where
       let Fitting : Accepted → Type 0 = λ a. HaveShapes (named_shapes a.subject) tenant.maps in
       record {
         programs = ap (λ programs. set programs k None) stands.programs ∙ sym (map-set (option_map (λ (a : Accepted). a.subject)) old.programs k None);
-        verified = All-set (λ entry_index. IfSome entry_index IsVerified) old.programs k None tt stands.verified;
-        shapes = All-set (λ entry_index. IfSome entry_index Fitting) old.programs k None tt stands.shapes;
+        verified = All-set (λ index. IfSome index IsVerified) old.programs k None tt stands.verified;
+        shapes = All-set (λ index. IfSome index Fitting) old.programs k None tt stands.shapes;
         run = run-closed old.programs (set old.programs k None) old.run tenant.run idle stands.run;
         fulfils = record { maps = stands.fulfils.maps; eight = length-set tenant.programs k None ∙ stands.fulfils.eight; run = stands.fulfils.run; same = stands.fulfils.same };
       }
@@ -138,7 +138,7 @@ each_kept : (programs : List (Option Accepted)) (old new : FlatMaps) (m : ℕ) �
     → EachProgram (λ a. HaveShapes (named_shapes a.subject) old) programs → EachProgram (λ a. HaveShapes (named_shapes a.subject) new) programs
 each_kept programs old new m unused others have k d less = by (slice_index_or programs k d) (none-at (names_in m) programs k d unused less) (have k d less)
   where
-    by : (entry_index : Option Accepted) → names_in m entry_index ≡ false → IfSome entry_index (λ a. HaveShapes (named_shapes a.subject) old) → IfSome entry_index (λ a. HaveShapes (named_shapes a.subject) new)
+    by : (index : Option Accepted) → names_in m index ≡ false → IfSome index (λ a. HaveShapes (named_shapes a.subject) old) → IfSome index (λ a. HaveShapes (named_shapes a.subject) new)
     by None unnamed had = tt
     by (Some a) unnamed had = unnamed_kept a.subject old new m unnamed others had
 

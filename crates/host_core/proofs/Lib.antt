@@ -1,4 +1,4 @@
-pub mod EntryIndices
+pub mod Indices
 pub mod Worlds
 pub mod Memories
 pub mod Systems

@@ -29,7 +29,7 @@ use Rattle.host_core.specs.declared.tenant.OpenRun.{OpenRun as KeptRun}
 use Rattle.host_core.specs.World.{OpenRun, Tenant, System, free_program, owned_by}
 use Rattle.host_core.specs.Happens.{LoadHappens, load_refusal, is_context_size, changed_system}
 use Rattle.host_core.specs.HostView.{TenantView, StandsForAnyRun, StandsForTenant, IsServed}
-use Rattle.host_core.proofs.EntryIndices.{first_free-map, map-set}
+use Rattle.host_core.proofs.Indices.{first_free-map, map-set}
 use Rattle.host_core.proofs.Worlds.{OfTenant-there, RefusedOr-refused, RefusedOr-else}
 use Rattle.host_core.proofs.Systems.{part_stands, changed_stands}
 use Rattle.host_core.proofs.Serving.{is_some-run, served-same}
@@ -61,21 +61,21 @@ have_named owned text size m = by (slice_index_or (named_shapes (subject_of owne
     by None e = tt
     by (Some shape) e =
         let there : slice_index_or (padded (shapes_of owned.maps)) m None ≡ Some shape = asked_shape (subject_of owned text size) m shape e in
-        let into_reply : option_map (λ (flat : FlatMap). flat.shape) (map_at owned.maps m) ≡ Some shape = sym (shape_of_map owned.maps m) ∙ sym (padded-at (shapes_of owned.maps) m) ∙ there in
-        shaped (map_at owned.maps m) shape into_reply
+        let shaped_so : option_map (λ (flat : FlatMap). flat.shape) (map_at owned.maps m) ≡ Some shape = sym (shape_of_map owned.maps m) ∙ sym (padded-at (shapes_of owned.maps) m) ∙ there in
+        shaped (map_at owned.maps m) shape shaped_so
 
 -- the first of the indices where a host keeps no program
 abbrev pub first_free_of : TenantView → Option ℕ
-first_free_of kept = position (λ (entry_index : Option Accepted). is_none entry_index) kept.programs
+first_free_of kept = position (λ (index : Option Accepted). is_none index) kept.programs
 
 -- what a lent list of the indices says of them
-pub lent-free : (kept : TenantView) (lent : List (Option Accepted)) (into_reply : Option ℕ) → lent ≡ kept.programs → into_reply ≡ position (λ (entry_index : Option Accepted). is_none entry_index) lent → first_free_of kept ≡ into_reply
-lent-free kept lent into_reply same says = ap (λ programs. position (λ (entry_index : Option Accepted). is_none entry_index) programs) (sym same) ∙ sym says
+pub lent-free : (kept : TenantView) (lent : List (Option Accepted)) (first : Option ℕ) → lent ≡ kept.programs → first ≡ position (λ (index : Option Accepted). is_none index) lent → first_free_of kept ≡ first
+lent-free kept lent first same says = ap (λ programs. position (λ (index : Option Accepted). is_none index) programs) (sym same) ∙ sym says
 
 -- the same index is the first that is free
 free_program-kept : (kept : TenantView) (tenant : Tenant) → StandsForTenant kept tenant → free_program tenant ≡ first_free_of kept
 free_program-kept kept tenant stands =
-    ap (λ programs. position (λ (entry_index : Option Subject). is_none entry_index) programs) stands.programs ∙ first_free-map (λ (v : Accepted). v.subject) kept.programs
+    ap (λ programs. position (λ (index : Option Subject). is_none index) programs) stands.programs ∙ first_free-map (λ (v : Accepted). v.subject) kept.programs
 
 -- a size that a context may have passes the test
 pub size-fits : (size : ℕ) → IsContextSize size → is_context_size size ≡ true
@@ -178,8 +178,8 @@ module _ (t : ℕ) (old : TenantView) (memory : MemoryState) (text : List ℕ) (
             ap (λ q. set (subjects old.programs) k (Some q)) same ∙ sym (map-set (option_map (λ (a : Accepted). a.subject)) old.programs k (Some v)) in
             record {
               programs = ap (λ programs. set programs k (Some p)) stands.programs ∙ listed;
-              verified = All-set (λ entry_index. IfSome entry_index IsVerified) old.programs k (Some v) verified stands.verified;
-              shapes = All-set (λ entry_index. IfSome entry_index Fitting) old.programs k (Some v) have stands.shapes;
+              verified = All-set (λ index. IfSome index IsVerified) old.programs k (Some v) verified stands.verified;
+              shapes = All-set (λ index. IfSome index Fitting) old.programs k (Some v) have stands.shapes;
               run = run-closed old.programs (set old.programs k (Some v)) old.run tenant.run idle stands.run;
               fulfils = record { maps = stands.fulfils.maps; eight = length-set tenant.programs k (Some p) ∙ stands.fulfils.eight; run = stands.fulfils.run; same = stands.fulfils.same };
             }

@@ -26,7 +26,7 @@ use Rattle.host_core.specs.declared.reply.Reply.TheVariants.{Begun, Refused}
 use Rattle.host_core.specs.World.{Tenant, System, program_at, begun_run, accepted_of, pins_of, owned_by, have_in}
 use Rattle.host_core.specs.Happens.{BeginHappens, Leaves, MayLackFrames, MayLackMemory, begin_refusal, changed_system}
 use Rattle.host_core.specs.HostView.{TenantView, EachProgram, StandsForTenant, StandsForMemory, IsKept, IsServed}
-use Rattle.host_core.proofs.EntryIndices.{get_or-there, slice_get-there, all-at}
+use Rattle.host_core.proofs.Indices.{get_or-there, slice_get-there, all-at}
 use Rattle.host_core.proofs.Worlds.{OfTenant-there, RefusedOr-refused, RefusedOr-else}
 use Rattle.host_core.proofs.Memories.{reserve-idle}
 use Rattle.host_core.proofs.Systems.{part_stands, have_stands, changed_stands}
@@ -47,7 +47,7 @@ abbrev pub accepted_at : TenantView → ℕ → Option Accepted
 accepted_at kept k = slice_index_or kept.programs k None
 
 -- what a lent list of the indices says of one of them
-pub lent-at : (kept : TenantView) (lent : List (Option Accepted)) (k : ℕ) {into_reply : Option Accepted} → lent ≡ kept.programs → into_reply ≡ slice_index_or lent k None → accepted_at kept k ≡ into_reply
+pub lent-at : (kept : TenantView) (lent : List (Option Accepted)) (k : ℕ) {found : Option Accepted} → lent ≡ kept.programs → found ≡ slice_index_or lent k None → accepted_at kept k ≡ found
 lent-at kept lent k same says = ap (λ programs. slice_index_or programs k None) (sym same) ∙ sym says
 
 -- the same program is at each index

@@ -336,9 +336,9 @@ update-busy t old memory m key value busy =
     ))
 
 -- a value that is read
-pub lookup-into_reply : (t : ℕ) (old : TenantView) (memory : MemoryState) (m key : ℕ) (bytes : List ℕ) → refused_lookup memory t m key ≡ None → IsValue (part memory t) m key bytes
+pub lookup-answered : (t : ℕ) (old : TenantView) (memory : MemoryState) (m key : ℕ) (bytes : List ℕ) → refused_lookup memory t m key ≡ None → IsValue (part memory t) m key bytes
     → IsServed t old memory (HostLookup t m key) (Value bytes) old memory
-lookup-into_reply t old memory m key bytes allowed value =
+lookup-answered t old memory m key bytes allowed value =
     served-same t old memory (HostLookup t m key) (Value bytes) (λ x tenant there stands holds.
     let none = element-refusal old memory x t tenant there stands holds m key None allowed in
     let here = subst (λ o. IsValue o m key bytes) (part_stands memory x t tenant holds there) value in

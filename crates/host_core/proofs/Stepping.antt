@@ -43,7 +43,7 @@ use Rattle.host_core.proofs.Worlds.{slice_get-set, OfTenant-there, changed_syste
 use Rattle.host_core.proofs.Memories.{owned-idle}
 use Rattle.host_core.proofs.Systems.{part_stands, reserved_stands, covered, covered-step, changed_stands}
 use Rattle.host_core.proofs.Joined.{AllHappen-join}
-use Rattle.host_core.proofs.EntryIndices.{all-at}
+use Rattle.host_core.proofs.Indices.{all-at}
 use Rattle.host_core.proofs.Advances.{some_instruction}
 use Rattle.host_core.proofs.Opening.{accepted-tight}
 
@@ -392,7 +392,7 @@ module _ (programs : List (Option Accepted)) (kept : KeptRun) (t n : ℕ) (befor
     made-on (answered did) = made-answered did
 
   -- steps, and one more with which the run ends
-  module _ (run_after : Running) (steps : ℕ) (made : run_after.steps ≡ kept.run.steps + n) (into_reply : steps ≡ run_after.steps) where
+  module _ (run_after : Running) (steps : ℕ) (made : run_after.steps ≡ kept.run.steps + n) (same_steps : steps ≡ run_after.steps) where
     made-ended : (number : ℕ) → IsEnded run.accepted r.state n t number before run_after later → MadeSteps x t n (Some (Ended number steps)) (record { programs = programs; run = None }) later
     made-ended number did =
         let m = did.made in
@@ -425,7 +425,7 @@ module _ (programs : List (Option Accepted)) (kept : KeptRun) (t n : ℕ) (befor
         let covers = subst IsCovered (sym twice) (covered later (changed_system x t next sharing) reads' stands') in
         let all = AllHappen-push x (changed_system x t middle between) (changed_system (changed_system x t middle between) t next sharing) (replicate m (Step t)) (replicate m Stepped) (Step t) (Ended number (suc (r.steps + m))) happen one covers in
         let all' = subst (λ y. AllHappen x (replicate m (Step t) ++ Step t ∷ []) (replicate m Stepped ++ Ended number (suc (r.steps + m)) ∷ []) y) twice all in
-        let says : suc (r.steps + m) ≡ steps = sym counted ∙ sym into_reply in
+        let says : suc (r.steps + m) ≡ steps = sym counted ∙ sym same_steps in
         let happened = subst (λ k. AllHappen x (replicate m (Step t) ++ Step t ∷ []) (replicate m Stepped ++ Ended number k ∷ []) (changed_system x t next sharing)) says all' in
         (next, sharing, stood', stands', (replicate m (Step t) ++ Step t ∷ [], replicate m Stepped ++ Ended number steps ∷ [], (m, omega (arith, last), (λ e. cc), refl, refl), happened))
 
@@ -449,12 +449,12 @@ pub made-last_step : (programs : List (Option Accepted)) (kept : KeptRun) (run_a
     → ReadsAs before → ReadsAs later → OtherTenantsUnchanged t before later → KeepsSizes before later → kept.run.steps + made ≡ run_after.steps → total ≡ run_after.steps
     → ((v : Accepted) (s : MachineState) → IsUnderWayAt programs kept v s (part before t) → HasAdvanced v s t limit kept.run before (Some number) run_after later)
     → HasMadeSteps t (record { programs = programs; run = Some kept }) before made (Some (Ended number total)) (record { programs = programs; run = None }) later
-made-last_step programs kept run_after t limit number made total before later reads reads' others sizes counted into_reply advanced x tenant there stood stands =
+made-last_step programs kept run_after t limit number made total before later reads reads' others sizes counted same_steps advanced x tenant there stood stands =
     let (r, is_open, run) = run-found programs kept tenant.run stood.run in
     let (n, some, few, stepped, done) = advanced run.accepted r.state (under-way programs kept t before x tenant r there stood stands is_open run) in
     let whole : n ≡ made = omega (arith, stepped, counted) in
     subst (λ k. MadeSteps x t k (Some (Ended number total)) (record { programs = programs; run = None }) later) whole
-    (made-off programs kept t n before later x tenant r there stood stands is_open run reads' others sizes run_after total stepped into_reply number done)
+    (made-off programs kept t n before later x tenant r there stood stands is_open run reads' others sizes run_after total stepped same_steps number done)
 
 -- a kept run that advanced made one step at least, and no more than its limit
 pub advanced-some : (programs : List (Option Accepted)) (kept : KeptRun) (after : Running) (t limit : ℕ) (last : Option ℕ) (before later : MemoryState)

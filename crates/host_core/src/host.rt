@@ -119,11 +119,11 @@ impl Host {
             return None;
         }
         self.memory.facts();
-        let entry_index = tenant as usize;
-        if entry_index >= self.tenants.len() {
+        let index = tenant as usize;
+        if index >= self.tenants.len() {
             return Some(Reply::Refused(Fault::BadTenant));
         }
-        self.tenants[entry_index].make_steps(&mut self.memory, tenant, limit)
+        self.tenants[index].make_steps(&mut self.memory, tenant, limit)
     }
 
     /// The shape of a tenant's map, if it has one of this number.
@@ -139,11 +139,11 @@ impl Host {
             → (next : System) × StandsForSystem self.new next
             × Happens x (Step tenant) result next × IsPromised x (Step tenant) result next }
     {
-        let entry_index = tenant as usize;
-        if entry_index >= self.tenants.len() {
+        let index = tenant as usize;
+        if index >= self.tenants.len() {
             return Reply::Refused(Fault::BadTenant);
         }
-        self.tenants[entry_index].step(&mut self.memory, tenant)
+        self.tenants[index].step(&mut self.memory, tenant)
     }
 
     /// Lets a run open, without the way through all other events.
@@ -152,11 +152,11 @@ impl Host {
             → (next : System) × StandsForSystem self.new next
             × Happens x (Begin tenant program context.now) result next × IsPromised x (Begin tenant program context.now) result next }
     {
-        let entry_index = tenant as usize;
-        if entry_index >= self.tenants.len() {
+        let index = tenant as usize;
+        if index >= self.tenants.len() {
             return Reply::Refused(Fault::BadTenant);
         }
-        self.tenants[entry_index].begin_run(&mut self.memory, tenant, program, context)
+        self.tenants[index].begin_run(&mut self.memory, tenant, program, context)
     }
 
     /// Lets any event happen.
@@ -179,11 +179,11 @@ impl Host {
             → (next : System) × StandsForSystem self.new next
             × Happens x event.now result next × IsPromised x event.now result next }
     {
-        let entry_index = number as usize;
-        if entry_index >= self.tenants.len() {
+        let index = number as usize;
+        if index >= self.tenants.len() {
             return Reply::Refused(Fault::BadTenant);
         }
-        self.tenants[entry_index].apply(self.alloc, &mut self.memory, number, event)
+        self.tenants[index].apply(self.alloc, &mut self.memory, number, event)
     }
 
     /// Sets an option of the scanner.

@@ -173,7 +173,7 @@ impl Tenant {
         if self.run.is_open() {
             return Err(Fault::Busy);
         }
-        let Some(entry_index) = first_free(self.programs.as_slice()) else {
+        let Some(index) = first_free(self.programs.as_slice()) else {
             return Err(Fault::TooManyPrograms);
         };
         if !is_context_size(context_size) {
@@ -182,8 +182,8 @@ impl Tenant {
         let shapes = host_shapes(memory, number);
         let program = decode_and_verify(alloc, shapes.as_slice(), text, context_size)?;
         memory.facts();
-        self.programs[entry_index] = Some(program);
-        Ok(Reply::Program(entry_index as u32))
+        self.programs[index] = Some(program);
+        Ok(Reply::Program(index as u32))
     }
 
     /// Serves the event that opens a run of a program.
@@ -541,10 +541,10 @@ impl OpenRun {
 }
 
 /// The program at an index, if there is one.
-fn program_of(programs: &[Option<Verified>], entry_index: u32) -> Option<&Verified>
-    ensures { option_copied result ≡ slice_index_or programs.now entry_index None }
+fn program_of(programs: &[Option<Verified>], index: u32) -> Option<&Verified>
+    ensures { option_copied result ≡ slice_index_or programs.now index None }
 {
-    match programs.get(entry_index as usize) {
+    match programs.get(index as usize) {
         Some(program) => program.as_ref(),
         None => None,
     }
@@ -553,7 +553,7 @@ fn program_of(programs: &[Option<Verified>], entry_index: u32) -> Option<&Verifi
 /// The first index where no program is.
 fn first_free(programs: &[Option<Verified>]) -> Option<usize>
     ensures first { result ≡ position (λ (slot : Option Accepted). is_none slot) programs.now }
-    ensures inside { IfSome result (λ entry_index. entry_index < length programs.now) }
+    ensures inside { IfSome result (λ index. index < length programs.now) }
 {
     programs.iter().position(|slot| slot.is_none())
 }

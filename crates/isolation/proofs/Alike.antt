@@ -32,9 +32,9 @@ pub alike-shown : (t : ℕ) (x' y' : System) (reply other answer : Reply) (s : S
 alike-shown t x' y' reply other answer s h k = inr (inr (h.0 ∙ sym k.0, h.1 ∙ sym k.1))
 
 -- what is seen of two tenants is the same, and the same is answered
-pub alike-into_reply : (t : ℕ) (x y x' y' : System) (a b : Tenant) (answer reply other : Reply) → slice_get x.world t ≡ Some a → slice_get y.world t ≡ Some b → seen_tenant a ≡ seen_tenant b
+pub alike-replied : (t : ℕ) (x y x' y' : System) (a b : Tenant) (answer reply other : Reply) → slice_get x.world t ≡ Some a → slice_get y.world t ≡ Some b → seen_tenant a ≡ seen_tenant b
     → Answers x answer reply x' → Answers y answer other y' → Alike t reply other x' y'
-alike-into_reply t x y x' y' a b answer reply other there found same h k =
+alike-replied t x y x' y' a b answer reply other there found same h k =
     let left = shows-answer t x x' a answer reply there h in
     let right = shows-answer t y y' b answer other found k in
     alike-shown t x' y' reply other answer (seen_tenant b) (left.0, left.1 ∙ ap Some same) right
@@ -98,7 +98,7 @@ of_idle t x y x' y' reply other H busy idle agree = of_tenant t x y x' y' reply 
     cases a b there found same h k (Some r) (Some q) e f =
         let left = busy x x' a r reply (subst (λ (c : Tenant). H x c reply x') (with_run a (Some r) e) h) in
         let right = busy y y' b q other (subst (λ (c : Tenant). H y c other y') (with_run b (Some q) f) k) in
-        alike-into_reply t x y x' y' a b (Refused fault.Busy) reply other there found same left right
+        alike-replied t x y x' y' a b (Refused fault.Busy) reply other there found same left right
     cases a b there found same h k (Some r) None e f = absurd (cc (sym (ap (option_map seen_run) e) ∙ ap (λ (s : Seen). s.run) same ∙ ap (option_map seen_run) f))
     cases a b there found same h k None (Some q) e f = absurd (cc (sym (ap (option_map seen_run) e) ∙ ap (λ (s : Seen). s.run) same ∙ ap (option_map seen_run) f))
 

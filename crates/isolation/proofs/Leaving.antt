@@ -55,16 +55,16 @@ loads t x y x' y' tenant p reply other there found (LoadHappens.malformed refusa
     refused_alike t x y x' y' tenant reply other refusal further there found (one_fault p.text further refusal also is) h k
 loads t x y x' y' tenant p reply other there found (LoadHappens.unlawful well refusal is h) (LoadHappens.unlawful formed further also k) =
     refused_alike t x y x' y' tenant reply other refusal further there found (one_refusal p further refusal also is) h k
-loads t x y x' y' tenant p reply other there found (LoadHappens.loaded well table tight entry_index free h) (LoadHappens.loaded formed second held at taken k) =
-    let same : at ≡ entry_index = cc (free, taken) in
-    alike-changed t x y x' y' tenant (record tenant { programs = set tenant.programs entry_index (Some p) }) x.sharing y.sharing (Program entry_index) reply other there found h
+loads t x y x' y' tenant p reply other there found (LoadHappens.loaded well table tight index free h) (LoadHappens.loaded formed second held at taken k) =
+    let same : at ≡ index = cc (free, taken) in
+    alike-changed t x y x' y' tenant (record tenant { programs = set tenant.programs index (Some p) }) x.sharing y.sharing (Program index) reply other there found h
     (subst (λ (n : ℕ). Leaves y t (record tenant { programs = set tenant.programs n (Some p) }) y.sharing (Program n) other y') same k)
 loads t x y x' y' tenant p reply other there found (LoadHappens.malformed refusal is h) (LoadHappens.unlawful formed further also k) = absurd (no_fault p.text refusal formed is)
 loads t x y x' y' tenant p reply other there found (LoadHappens.unlawful well refusal is h) (LoadHappens.malformed further also k) = absurd (no_fault p.text further well also)
 loads t x y x' y' tenant p reply other there found (LoadHappens.malformed refusal is h) (LoadHappens.loaded formed second held at taken k) = absurd (no_fault p.text refusal formed is)
-loads t x y x' y' tenant p reply other there found (LoadHappens.loaded well table tight entry_index free h) (LoadHappens.malformed further also k) = absurd (no_fault p.text further well also)
+loads t x y x' y' tenant p reply other there found (LoadHappens.loaded well table tight index free h) (LoadHappens.malformed further also k) = absurd (no_fault p.text further well also)
 loads t x y x' y' tenant p reply other there found (LoadHappens.unlawful well refusal is h) (LoadHappens.loaded formed second held at taken k) = absurd (refusal_excludes p second refusal held is)
-loads t x y x' y' tenant p reply other there found (LoadHappens.loaded well table tight entry_index free h) (LoadHappens.unlawful formed further also k) = absurd (refusal_excludes p table further tight also)
+loads t x y x' y' tenant p reply other there found (LoadHappens.loaded well table tight index free h) (LoadHappens.unlawful formed further also k) = absurd (refusal_excludes p table further tight also)
 
 begins : (t : ℕ) (x y x' y' : System) (tenant : Tenant) (n : ℕ) (context : List ℕ) (reply other : Reply) → slice_get x.world t ≡ Some tenant → slice_get y.world t ≡ Some tenant
     → BeginHappens x t tenant n context reply x' → BeginHappens y t tenant n context other y' → Alike t reply other x' y'

@@ -16,7 +16,7 @@ use Rattle.host_core.specs.World.{Tenant, System, have_in}
 use Rattle.host_core.specs.Happens.{Answers, Leaves, RefusedOr, MayLackMemory, CreateHappens, UpdateHappens}
 use Rattle.isolation.specs.Tenants.{Seen, seen_by, seen_tenant, is_scarce}
 use Rattle.isolation.proofs.Happenings.{CreateOf, UpdateOf, LookupOf}
-use Rattle.isolation.proofs.Alike.{Alike, idle, of_idle, of_tenant, shows-change, alike-shown, alike-answered, alike-into_reply}
+use Rattle.isolation.proofs.Alike.{Alike, idle, of_idle, of_tenant, shows-change, alike-shown, alike-answered, alike-replied}
 use Rattle.isolation.proofs.Leaving.{GoesAlike}
 
 -- two refusals that are the same in both systems come before the one that says of frames
@@ -75,16 +75,16 @@ ValueOf map key x reply x' = MayLackMemory x reply x' ((bytes : List ℕ)
 looks : (t : ℕ) (x y x' y' : System) (a b : Tenant) (reply other : Reply) → slice_get x.world t ≡ Some a → slice_get y.world t ≡ Some b → seen_tenant a ≡ seen_tenant b
     → (flat : FlatMap) (key : ℕ) (past : Bool) → RefusedOr (first_refusal ((past, fault.NoElement) ∷ [])) x reply x' (ValueOf (Some flat) key x reply x')
     → RefusedOr (first_refusal ((past, fault.NoElement) ∷ [])) y other y' (ValueOf (Some flat) key y other y') → Alike t reply other x' y'
-looks t x y x' y' a b reply other there found same flat key true h k = alike-into_reply t x y x' y' a b (Refused fault.NoElement) reply other there found same h k
+looks t x y x' y' a b reply other there found same flat key true h k = alike-replied t x y x' y' a b (Refused fault.NoElement) reply other there found same h k
 looks t x y x' y' a b reply other there found same flat key false (inl h) k = inl (ap is_scarce h.0)
 looks t x y x' y' a b reply other there found same flat key false (inr h) (inl k) = inr (inl (ap is_scarce k.0))
 looks t x y x' y' a b reply other there found same flat key false (inr (bytes, is, h)) (inr (others, are, k)) =
-    alike-into_reply t x y x' y' a b (Value bytes) reply other there found same h (k.0 ∙ ap Value (are.1 ∙ sym is.1), k.1)
+    alike-replied t x y x' y' a b (Value bytes) reply other there found same h (k.0 ∙ ap Value (are.1 ∙ sym is.1), k.1)
 
 looks_in : (t : ℕ) (x y x' y' : System) (a b : Tenant) (reply other : Reply) → slice_get x.world t ≡ Some a → slice_get y.world t ≡ Some b → seen_tenant a ≡ seen_tenant b
     → (key : ℕ) (map : Option FlatMap) → RefusedOr (lookup_refusal_in map key) x reply x' (ValueOf map key x reply x') → RefusedOr (lookup_refusal_in map key) y other y' (ValueOf map key y other y')
     → Alike t reply other x' y'
-looks_in t x y x' y' a b reply other there found same key None h k = alike-into_reply t x y x' y' a b (Refused fault.NoMap) reply other there found same h k
+looks_in t x y x' y' a b reply other there found same key None h k = alike-replied t x y x' y' a b (Refused fault.NoMap) reply other there found same h k
 looks_in t x y x' y' a b reply other there found same key (Some flat) h k = looks t x y x' y' a b reply other there found same flat key (nat_le flat.shape.entries key) h k
 
 pub alike-lookup : (t m key : ℕ) (x y : System) (reply : Reply) (x' : System) (other : Reply) (y' : System) → GoesAlike t x y reply x' other y' (LookupOf t m key)

@@ -12,7 +12,7 @@ use Rattle.host_core.specs.World.{Tenant, System, OpenRun}
 use Rattle.host_core.specs.Happens.{Answers, StepHappens, StepLeads}
 use Rattle.isolation.specs.Tenants.{Seen, SeenRun, seen_tenant, seen_run}
 use Rattle.isolation.proofs.Happenings.{StepOf}
-use Rattle.isolation.proofs.Alike.{Alike, of_tenant, Shows, shows-change, alike-shown, alike-into_reply}
+use Rattle.isolation.proofs.Alike.{Alike, of_tenant, Shows, shows-change, alike-shown, alike-replied}
 use Rattle.isolation.proofs.Leaving.{GoesAlike}
 
 abbrev answer_of : SeenRun → Outcome → Reply
@@ -49,7 +49,7 @@ alike-step t x y reply x' other y' agree = of_tenant t x y x' y' reply other (St
     runs : (a b : Tenant) → slice_get x.world t ≡ Some a → slice_get y.world t ≡ Some b → seen_tenant a ≡ seen_tenant b → (p q : Option OpenRun) → a.run ≡ p → b.run ≡ q
         → MatchOption p (Answers x (Refused fault.NoRun) reply x') (λ r. StepHappens x t a r reply x') → MatchOption q (Answers y (Refused fault.NoRun) other y') (λ r. StepHappens y t b r other y')
         → Alike t reply other x' y'
-    runs a b there found same None None e f h k = alike-into_reply t x y x' y' a b (Refused fault.NoRun) reply other there found same h k
+    runs a b there found same None None e f h k = alike-replied t x y x' y' a b (Refused fault.NoRun) reply other there found same h k
     runs a b there found same (Some r) (Some q) e f h k =
         let runs_same : Some (seen_run q) ≡ Some (seen_run r) = sym (ap (option_map seen_run) f) ∙ sym (ap (λ (s : Seen). s.run) same) ∙ ap (option_map seen_run) e in
         let run_same : seen_run q ≡ seen_run r = cc runs_same in

@@ -14,7 +14,7 @@ use Rattle.turn.specs.declared.view.View.{View}
 use Rattle.turn.specs.Seats.{SeatState, IsNewSeat}
 use Rattle.tenant_workers.proofs.Resting.{new_idle}
 use Rattle.serving.specs.AtFirst.{IsAtFirst, first_part}
-use Rattle.serving.proofs.EntryIndices.{entry_index-of}
+use Rattle.serving.proofs.Indices.{index-of}
 
 -- eight of the indices, all of which have the same
 eight-of : {X : Type 0} (x : X) (tenants t : ℕ) → t < tenants → take 8 (drop (t * 8) (replicate (tenants * 8) x)) ≡ replicate 8 x
@@ -50,4 +50,4 @@ pub all_at_first : (frames tenants : ℕ) (options : Options) (memory : MemorySt
     → (seats : List SeatState) → length seats ≡ tenants → ((t : ℕ) → IfSome (slice_get seats t) (IsNewSeat turn t (t + 1) memory)) → All (IsAtFirst lent) seats
 all_at_first frames tenants options memory as_new turn lent same seats many each t seat within =
     at-first frames tenants options memory as_new turn lent same t (get_or seats t seat) (omega (arith, within, many))
-    (entry_index-of (λ t. IsNewSeat turn t (t + 1) memory) seats each t seat within)
+    (index-of (λ t. IsNewSeat turn t (t + 1) memory) seats each t seat within)

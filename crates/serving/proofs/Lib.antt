@@ -2,7 +2,7 @@ pub mod AtFirst
 pub mod Kept
 pub mod Lookups
 pub mod Opened
-pub mod EntryIndices
+pub mod Indices
 pub mod RunLines
 pub mod Served
 pub mod Settings

@@ -16,7 +16,7 @@ use Rattle.engines.specs.Lines.{reply_lines}
 use Rattle.engines.specs.Replay.{is_refusal}
 use Rattle.serving.specs.Lookups.{AreLookedUp, IsAnswerIn, IsLookedUp, lookup_by, lookup_tellings, lookups_in}
 use Rattle.serving.specs.Report.{Telling, Answered, HasWritten}
-use Rattle.serving.proofs.EntryIndices.{at-mapped}
+use Rattle.serving.proofs.Indices.{at-mapped}
 use Rattle.serving.proofs.Tellings.{printed-join, printed-none, printed-one}
 
 -- lines were written, and with those of the lookups that are left they are those of all
@@ -55,10 +55,10 @@ lookups-all parts all rest before after was is none so_far =
     (replies, looked, subst (λ tellings. HasWritten tellings before after was is) (sym (append-nil so_far.printed) ∙ same) so_far.written)
 
 -- the lookups from an index on
-pub lookups-more : (commands : List Command) (entry_index : ℕ) (command : Command) → entry_index < length commands → command ≡ get_or commands entry_index command
-    → lookups_in (drop entry_index commands) ≡ lookup_by command ++ lookups_in (drop (entry_index + 1) commands)
-lookups-more commands entry_index command within is =
-    ap lookups_in (drop_more commands entry_index command within) ∙ ap (λ c. lookup_by c ++ lookups_in (drop (entry_index + 1) commands)) (sym is)
+pub lookups-more : (commands : List Command) (index : ℕ) (command : Command) → index < length commands → command ≡ get_or commands index command
+    → lookups_in (drop index commands) ≡ lookup_by command ++ lookups_in (drop (index + 1) commands)
+lookups-more commands index command within is =
+    ap lookups_in (drop_more commands index command within) ∙ ap (λ c. lookup_by c ++ lookups_in (drop (index + 1) commands)) (sym is)
 
 -- the answer by what was read
 answer-in : {V : Type 0} (bytes_of : V → List ℕ) (owned : TenantPart) (m key : ℕ) (value : Result V Fault) (reply : Reply)
@@ -77,26 +77,26 @@ looked-up f bytes_of plans tenant m key plan value reply within is refused same 
     (answer-in bytes_of (f (get_or plans tenant plan)) m key value reply is refused same)
 
 -- the lookups from an index on, by what the command there looks up
-pub lookups-step : (commands : List Command) (entry_index : ℕ) (command named : Command) (found : List Event) → entry_index < length commands → command ≡ get_or commands entry_index command
-    → command ≡ named → lookup_by named ≡ found → lookups_in (drop entry_index commands) ≡ found ++ lookups_in (drop (entry_index + 1) commands)
-lookups-step commands entry_index command named found within is same finds =
-    lookups-more commands entry_index command within is ∙ ap (λ c. lookup_by c ++ lookups_in (drop (entry_index + 1) commands)) same
-    ∙ ap (λ events. events ++ lookups_in (drop (entry_index + 1) commands)) finds
+pub lookups-step : (commands : List Command) (index : ℕ) (command named : Command) (found : List Event) → index < length commands → command ≡ get_or commands index command
+    → command ≡ named → lookup_by named ≡ found → lookups_in (drop index commands) ≡ found ++ lookups_in (drop (index + 1) commands)
+lookups-step commands index command named found within is same finds =
+    lookups-more commands index command within is ∙ ap (λ c. lookup_by c ++ lookups_in (drop (index + 1) commands)) same
+    ∙ ap (λ events. events ++ lookups_in (drop (index + 1) commands)) finds
 
 -- one more line, of the command at an index, which looks a value up
-pub lookups-printed : (parts found : List TenantPart) (commands : List Command) (entry_index : ℕ) (command : Command) (event : Event) (reply : Reply) (before mid_way after : Bool) (was half is : Option (List ℕ))
-    → entry_index < length commands → command ≡ get_or commands entry_index command → command ≡ Apply event → found ≡ parts
+pub lookups-printed : (parts found : List TenantPart) (commands : List Command) (index : ℕ) (command : Command) (event : Event) (reply : Reply) (before mid_way after : Bool) (was half is : Option (List ℕ))
+    → index < length commands → command ≡ get_or commands index command → command ≡ Apply event → found ≡ parts
     → (lookup_by (Apply event) ≡ event ∷ []) × IsLookedUp found event reply → after ≡ (mid_way || is_refusal reply) → Appends half is (reply_lines event 0 reply)
-    → ArePrintedUpTo parts (lookups_in commands) (lookups_in (drop entry_index commands)) before mid_way was half
-    → ArePrintedUpTo parts (lookups_in commands) (lookups_in (drop (entry_index + 1) commands)) before after was is
-lookups-printed parts found commands entry_index command event reply before mid_way after was half is within at named same answered noted more so_far =
-    lookups-next parts (lookups_in commands) (lookups_in (drop entry_index commands)) (lookups_in (drop (entry_index + 1) commands)) event reply before mid_way after was half is
-    (lookups-step commands entry_index command (Apply event) (event ∷ []) within at named answered.0)
+    → ArePrintedUpTo parts (lookups_in commands) (lookups_in (drop index commands)) before mid_way was half
+    → ArePrintedUpTo parts (lookups_in commands) (lookups_in (drop (index + 1) commands)) before after was is
+lookups-printed parts found commands index command event reply before mid_way after was half is within at named same answered noted more so_far =
+    lookups-next parts (lookups_in commands) (lookups_in (drop index commands)) (lookups_in (drop (index + 1) commands)) event reply before mid_way after was half is
+    (lookups-step commands index command (Apply event) (event ∷ []) within at named answered.0)
     (subst (λ parts. IsLookedUp parts event reply) same answered.1) noted more so_far
 
 -- none is left
-pub lookups-end : (commands : List Command) (entry_index : ℕ) → length commands ≤ entry_index → lookups_in (drop entry_index commands) ≡ []
+pub lookups-end : (commands : List Command) (index : ℕ) → length commands ≤ index → lookups_in (drop index commands) ≡ []
 lookups-end [] zero past = refl
-lookups-end [] (suc entry_index) past = refl
+lookups-end [] (suc index) past = refl
 lookups-end (command ∷ commands) zero past = absurd (omega (arith, past))
-lookups-end (command ∷ commands) (suc entry_index) past = lookups-end commands entry_index (omega (arith, past))
+lookups-end (command ∷ commands) (suc index) past = lookups-end commands index (omega (arith, past))

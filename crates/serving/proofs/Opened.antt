@@ -24,7 +24,7 @@ use Rattle.host_file.specs.declared.command.Command.TheVariants.{Apply, Finish, 
 use Rattle.host_file.specs.declared.command.Command.{Command}
 use Rattle.serving.specs.AtFirst.{first_part}
 use Rattle.serving.specs.Opened.{AreOpenedFor, HaveOpened, Home, IsGiven, IsNewPlan, IsOpenedFor, IsStopped, RefusesGift, RefusesOpening, first_home, home_of}
-use Rattle.serving.proofs.EntryIndices.{at-mapped, each-at, past-mapped, split-at}
+use Rattle.serving.proofs.Indices.{at-mapped, each-at, past-mapped, split-at}
 
 -- one more command
 opened-more : (t : ℕ) (commands : List Command) (command : Command) (old half new : Home) → AreOpenedFor t commands old half → IsOpenedFor t command half new
@@ -33,47 +33,47 @@ opened-more t [] command old half new first one = (new, subst (λ home. IsOpened
 opened-more t (c ∷ commands) command old half new (between, here, rest) one = (between, here, opened-more t commands command between half new rest one)
 
 -- an index that is there needs no default
-within-any : {X : Type 0} (xs : List X) (entry_index : ℕ) (a b : X) → entry_index < length xs → get_or xs entry_index a ≡ get_or xs entry_index b
-within-any [] entry_index a b within = absurd (omega (arith, within))
+within-any : {X : Type 0} (xs : List X) (index : ℕ) (a b : X) → index < length xs → get_or xs index a ≡ get_or xs index b
+within-any [] index a b within = absurd (omega (arith, within))
 within-any (x ∷ xs) zero a b within = refl
-within-any (x ∷ xs) (suc entry_index) a b within = within-any xs entry_index a b (omega (arith, within))
+within-any (x ∷ xs) (suc index) a b within = within-any xs index a b (omega (arith, within))
 
 -- what an event does for the tenant at an index, and for the others
-opened-one : (event : Event) (plans : List TenantPlan) (entry_index : ℕ) (old plan : TenantPlan) (t : ℕ) (other : TenantPlan) → entry_index < length plans → tenant_of event ≡ Some entry_index
-    → IsGiven event (home_of (get_or plans entry_index old)) (home_of plan) → ((t ≡ entry_index) ⊎ (t ≢ entry_index))
-    → IsOpenedFor t (Apply event) (home_of (get_or plans t other)) (home_of (get_or (set plans entry_index plan) t other))
-opened-one event plans entry_index old plan t other within named given (inl same) =
-    let was = ap home_of (within-any plans entry_index old other within ∙ ap (λ i. get_or plans i other) (sym same)) in
-    let is = ap home_of (sym (get_or-set_at plans entry_index t plan other same within)) in
+opened-one : (event : Event) (plans : List TenantPlan) (index : ℕ) (old plan : TenantPlan) (t : ℕ) (other : TenantPlan) → index < length plans → tenant_of event ≡ Some index
+    → IsGiven event (home_of (get_or plans index old)) (home_of plan) → ((t ≡ index) ⊎ (t ≢ index))
+    → IsOpenedFor t (Apply event) (home_of (get_or plans t other)) (home_of (get_or (set plans index plan) t other))
+opened-one event plans index old plan t other within named given (inl same) =
+    let was = ap home_of (within-any plans index old other within ∙ ap (λ i. get_or plans i other) (sym same)) in
+    let is = ap home_of (sym (get_or-set_at plans index t plan other same within)) in
     ((λ names. subst₂ (IsGiven event) was is given), (λ others. absurd (others (named ∙ ap (λ i. Some i) (sym same)))))
-opened-one event plans entry_index old plan t other within named given (inr differs) =
-    ((λ names. absurd (differs (ap (λ o. unwrap_or o 0) (sym names ∙ named)))), (λ others. ap home_of (get_or-set_other plans entry_index t plan other differs)))
+opened-one event plans index old plan t other within named given (inr differs) =
+    ((λ names. absurd (differs (ap (λ o. unwrap_or o 0) (sym names ∙ named)))), (λ others. ap home_of (get_or-set_other plans index t plan other differs)))
 
-runs-one : (plans : List TenantPlan) (entry_index : ℕ) (old plan : TenantPlan) (t : ℕ) (other : TenantPlan) → entry_index < length plans
-    → plan.runs.items ≡ (get_or plans entry_index old).runs.items → ((t ≡ entry_index) ⊎ (t ≢ entry_index)) → (get_or (set plans entry_index plan) t other).runs.items ≡ (get_or plans t other).runs.items
-runs-one plans entry_index old plan t other within kept (inl same) =
-    ap (λ p. p.runs.items) (get_or-set_at plans entry_index t plan other same within) ∙ kept
-    ∙ ap (λ p. p.runs.items) (within-any plans entry_index old other within ∙ ap (λ i. get_or plans i other) (sym same))
-runs-one plans entry_index old plan t other within kept (inr differs) = ap (λ p. p.runs.items) (get_or-set_other plans entry_index t plan other differs)
+runs-one : (plans : List TenantPlan) (index : ℕ) (old plan : TenantPlan) (t : ℕ) (other : TenantPlan) → index < length plans
+    → plan.runs.items ≡ (get_or plans index old).runs.items → ((t ≡ index) ⊎ (t ≢ index)) → (get_or (set plans index plan) t other).runs.items ≡ (get_or plans t other).runs.items
+runs-one plans index old plan t other within kept (inl same) =
+    ap (λ p. p.runs.items) (get_or-set_at plans index t plan other same within) ∙ kept
+    ∙ ap (λ p. p.runs.items) (within-any plans index old other within ∙ ap (λ i. get_or plans i other) (sym same))
+runs-one plans index old plan t other within kept (inr differs) = ap (λ p. p.runs.items) (get_or-set_other plans index t plan other differs)
 
 chosen : {A B C D : Type 0} → (A × C) ⊎ (B × D) → C ⊎ D
 chosen (inl both) = inl both.1
 chosen (inr both) = inr both.1
 
-same-or-other : (t entry_index : ℕ) → (t ≡ entry_index) ⊎ (t ≢ entry_index)
-same-or-other t entry_index = chosen (eqb_tells t entry_index)
+same-or-other : (t index : ℕ) → (t ≡ index) ⊎ (t ≢ index)
+same-or-other t index = chosen (eqb_tells t index)
 
 none-some : (t : ℕ) → None ≡ Some t → ⊥
 none-some t same = absurd (omega (arith, ap (λ o. unwrap_or o (suc t)) same))
 
 -- an event was done for its tenant
-pub opened_given : (event : Event) (plans : List TenantPlan) (entry_index : ℕ) (old plan : TenantPlan) → entry_index < length plans → tenant_of event ≡ Some entry_index
-    → plan.runs.items ≡ (get_or plans entry_index old).runs.items → IsGiven event (home_of (get_or plans entry_index old)) (home_of plan)
-    → HaveOpened (Apply event ∷ []) plans (set plans entry_index plan)
-opened_given event plans entry_index old plan within named kept given = record {
-  as_many = length-set plans entry_index plan;
-  homes = λ t other there. (home_of (get_or (set plans entry_index plan) t other), opened-one event plans entry_index old plan t other within named given (same-or-other t entry_index), refl);
-  runs = λ t other there. runs-one plans entry_index old plan t other within kept (same-or-other t entry_index);
+pub opened_given : (event : Event) (plans : List TenantPlan) (index : ℕ) (old plan : TenantPlan) → index < length plans → tenant_of event ≡ Some index
+    → plan.runs.items ≡ (get_or plans index old).runs.items → IsGiven event (home_of (get_or plans index old)) (home_of plan)
+    → HaveOpened (Apply event ∷ []) plans (set plans index plan)
+opened_given event plans index old plan within named kept given = record {
+  as_many = length-set plans index plan;
+  homes = λ t other there. (home_of (get_or (set plans index plan) t other), opened-one event plans index old plan t other within named given (same-or-other t index), refl);
+  runs = λ t other there. runs-one plans index old plan t other within kept (same-or-other t index);
 }
 
 -- an event that names no tenant
@@ -109,11 +109,11 @@ opened-nothing command plans none = record {
 }
 
 -- one more of the commands
-pub opened-upto : (commands : List Command) (entry_index : ℕ) (command : Command) (old half new : List TenantPlan) → entry_index < length commands → command ≡ get_or commands entry_index command
-    → HaveOpened (take entry_index commands) old half → HaveOpened (command ∷ []) half new → HaveOpened (take (entry_index + 1) commands) old new
-opened-upto commands entry_index command old half new within is first one =
-    subst (λ front. HaveOpened front old new) (ap (λ c. take entry_index commands ++ c ∷ []) is ∙ sym (take_more commands entry_index command within))
-    (opened-next (take entry_index commands) command old half new first one)
+pub opened-upto : (commands : List Command) (index : ℕ) (command : Command) (old half new : List TenantPlan) → index < length commands → command ≡ get_or commands index command
+    → HaveOpened (take index commands) old half → HaveOpened (command ∷ []) half new → HaveOpened (take (index + 1) commands) old new
+opened-upto commands index command old half new within is first one =
+    subst (λ front. HaveOpened front old new) (ap (λ c. take index commands ++ c ∷ []) is ∙ sym (take_more commands index command within))
+    (opened-next (take index commands) command old half new first one)
 
 abbrev home-by : TenantPart → List Accepted → Home
 home-by owned programs = record { part = owned; programs = programs }
@@ -131,16 +131,16 @@ opened-homes commands old new fresh opened =
     subst (λ home. AreOpenedFor t commands home (home_of (get_or new t plan))) (new-home (get_or old t plan) (fresh t plan was)) (opened.homes t plan was))
 
 -- the command at an index was refused
-pub stopped-at : (commands : List Command) (entry_index : ℕ) (command : Command) (event : Event) (fault : Fault) (old half : List TenantPlan)
-    → entry_index < length commands → command ≡ get_or commands entry_index command → command ≡ Apply event → All IsNewPlan old
-    → HaveOpened (take entry_index commands) old half → RefusesOpening (map home_of half) event fault → IsStopped (length old) commands event fault
-stopped-at commands entry_index command event fault old half within is names fresh opened refuses = record {
-  front = take entry_index commands;
-  rest = drop (entry_index + 1) commands;
-  stands = split-at commands entry_index command within ∙ ap (λ c. take entry_index commands ++ c ∷ drop (entry_index + 1) commands) (sym is ∙ names);
+pub stopped-at : (commands : List Command) (index : ℕ) (command : Command) (event : Event) (fault : Fault) (old half : List TenantPlan)
+    → index < length commands → command ≡ get_or commands index command → command ≡ Apply event → All IsNewPlan old
+    → HaveOpened (take index commands) old half → RefusesOpening (map home_of half) event fault → IsStopped (length old) commands event fault
+stopped-at commands index command event fault old half within is names fresh opened refuses = record {
+  front = take index commands;
+  rest = drop (index + 1) commands;
+  stands = split-at commands index command within ∙ ap (λ c. take index commands ++ c ∷ drop (index + 1) commands) (sym is ∙ names);
   homes = map home_of half;
   as_many = length-map half home_of ∙ opened.as_many;
-  opened = opened-homes (take entry_index commands) old half fresh opened;
+  opened = opened-homes (take index commands) old half fresh opened;
   refused = refuses;
 }
 
@@ -166,18 +166,18 @@ refused_update (Err fault) old seat tenant map key value refuses printed kept =
     (refuses, (memory_left seat, record { tenant = seat.view.first; known = kept; printed = printed }))
 
 -- why an event isn't done for its tenant
-pub refused_gift : {A : Type 0} (result : Result A Fault) (event : Event) (plans : List TenantPlan) (entry_index : ℕ) (plan : TenantPlan) → entry_index < length plans → tenant_of event ≡ Some entry_index
-    → IfErr result (RefusesGift event (home_of (get_or plans entry_index plan))) → IfErr result (RefusesOpening (map home_of plans) event)
-refused_gift (Ok a) event plans entry_index plan within named refuses = tt
-refused_gift (Err fault) event plans entry_index plan within named refuses = rw (named, at-mapped home_of plans entry_index plan within) refuses
+pub refused_gift : {A : Type 0} (result : Result A Fault) (event : Event) (plans : List TenantPlan) (index : ℕ) (plan : TenantPlan) → index < length plans → tenant_of event ≡ Some index
+    → IfErr result (RefusesGift event (home_of (get_or plans index plan))) → IfErr result (RefusesOpening (map home_of plans) event)
+refused_gift (Ok a) event plans index plan within named refuses = tt
+refused_gift (Err fault) event plans index plan within named refuses = rw (named, at-mapped home_of plans index plan within) refuses
 
 -- there is no such tenant
-pub refused_nobody : (event : Event) (plans : List TenantPlan) (entry_index : ℕ) → length plans ≤ entry_index → tenant_of event ≡ Some entry_index → RefusesOpening (map home_of plans) event BadTenant
-refused_nobody event plans entry_index past named = rw (named, past-mapped home_of plans entry_index past) refl
+pub refused_nobody : (event : Event) (plans : List TenantPlan) (index : ℕ) → length plans ≤ index → tenant_of event ≡ Some index → RefusesOpening (map home_of plans) event BadTenant
+refused_nobody event plans index past named = rw (named, past-mapped home_of plans index past) refl
 
 -- all of the commands
-pub opened-whole : (commands : List Command) (entry_index : ℕ) (old new : List TenantPlan) → length commands ≤ entry_index → HaveOpened (take entry_index commands) old new → HaveOpened commands old new
-opened-whole commands entry_index old new past opened = subst (λ front. HaveOpened front old new) (take_all entry_index commands past) opened
+pub opened-whole : (commands : List Command) (index : ℕ) (old new : List TenantPlan) → length commands ≤ index → HaveOpened (take index commands) old new → HaveOpened commands old new
+opened-whole commands index old new past opened = subst (λ front. HaveOpened front old new) (take_all index commands past) opened
 
 -- a command that applies no event
 pub opened-else : (command : Command) (plans : List TenantPlan) → ((event : Event) → command ≡ Apply event → ⊥) → HaveOpened (command ∷ []) plans plans

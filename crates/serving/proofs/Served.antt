@@ -25,7 +25,7 @@ use Rattle.serving.specs.RunLines.{all_run_tellings}
 use Rattle.serving.specs.Served.{AreNotServed, ArePrinted, IsServedSo, IsServedTenant, outcome_of, served, stopped, tellings_of, unserved}
 use Rattle.serving.specs.Report.{HasWritten, print_refusal}
 use Rattle.serving.proofs.Opened.{new-home}
-use Rattle.serving.proofs.EntryIndices.{each-at, mapped-twice}
+use Rattle.serving.proofs.Indices.{each-at, mapped-twice}
 use Rattle.serving.proofs.Tellings.{printed-join}
 
 -- what is reported of each of two lists is reported of those at one index

@@ -178,11 +178,11 @@ fn looked_up(
     let Event::HostLookup { tenant, map, key } = event else {
         return None;
     };
-    let entry_index = *tenant as usize;
-    if entry_index >= plans.len() {
+    let index = *tenant as usize;
+    if index >= plans.len() {
         return Some(Reply::Refused(Fault::BadTenant));
     }
-    let plan = &mut plans[entry_index];
+    let plan = &mut plans[index];
     Some(value_reply(plan.shared.read(rt, alloc, &mut plan.seat, *map, *key)))
 }
 

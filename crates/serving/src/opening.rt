@@ -78,11 +78,11 @@ fn apply(
     let Some(tenant) = event.tenant() else {
         return Ok(());
     };
-    let entry_index = tenant as usize;
-    if entry_index >= plans.len() {
+    let index = tenant as usize;
+    if index >= plans.len() {
         return Err(Fault::BadTenant);
     }
-    apply_for(rt, alloc, &mut plans[entry_index], event)
+    apply_for(rt, alloc, &mut plans[index], event)
 }
 
 /// Whether an option may be set before a thread starts: whenever it can have the value.

@@ -49,11 +49,11 @@ fn add_run(
     else {
         return Ok(());
     };
-    let entry_index = *tenant as usize;
-    if entry_index >= plans.len() {
+    let index = *tenant as usize;
+    if index >= plans.len() {
         return Ok(());
     }
-    plan_run(alloc, &mut plans[entry_index], *program, context.as_slice())
+    plan_run(alloc, &mut plans[index], *program, context.as_slice())
 }
 
 /// Adds a run to a tenant's plan.

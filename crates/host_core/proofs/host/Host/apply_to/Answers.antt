@@ -6,8 +6,8 @@ use Rattle.host_core.specs.HostView.{HostView}
 use Rattle.host_core.proofs.Hosting.{Hosts, hosts-served, hosts-no_tenant, tenant_there, kept_in}
 use Rattle.host_core.proofs.host.Host.apply_to.Goals as goal
 
-pub returns-then-entry_index-len : goal.returns-then-entry_index-len
-returns-then-entry_index-len c =
+pub returns-then-index-len : goal.returns-then-index-len
+returns-then-index-len c =
     let past : length c.self.inside.tenants.items ≤ c.args.number = omega (arith, c.self.inside.tenants.ok.0) in
     subst (λ view. Hosts view c.args.event.now (Refused BadTenant) view) c.self.view_is
     (hosts-no_tenant c.self.inside.tenants.items c.self.inside.memory c.args.number c.args.event.now c.requires (slice_get_past _ _ past))

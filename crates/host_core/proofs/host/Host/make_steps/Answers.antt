@@ -6,8 +6,8 @@ use Rattle.host_core.specs.HostView.{HostView}
 use Rattle.host_core.proofs.Hosting.{HostMakesSteps, host-made, host-no_tenant, tenant_there, kept_in}
 use Rattle.host_core.proofs.host.Host.make_steps.Goals as goal
 
-pub returns-then-entry_index-len : goal.returns-then-entry_index-len
-returns-then-entry_index-len c =
+pub returns-then-index-len : goal.returns-then-index-len
+returns-then-index-len c =
     let past : length c.self.inside.tenants.items ≤ c.args.tenant = omega (arith, c.self.inside.tenants.ok.0) in
     record {
       steps = subst (λ view. HostMakesSteps view c.args.tenant c.args.limit (Some (Refused BadTenant)) view) c.self.view_is

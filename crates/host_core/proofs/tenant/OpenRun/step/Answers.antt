@@ -35,19 +35,19 @@ next-need-requires c =
 
 pub returns-then-reserve-eq0-clause-advanced : goal.returns-then-reserve-eq0-clause-advanced
 returns-then-reserve-eq0-clause-advanced c v s under =
-    let entry_index = (goal.at.returns-then-reserve-eq0-clause-advanced c).In-Some in
-    let step = made entry_index v s c.next-need.result c.next-need.new.self c.next-need.ensures.follows c.next-need.ensures.steps under in
+    let index = (goal.at.returns-then-reserve-eq0-clause-advanced c).In-Some in
+    let step = made index v s c.next-need.result c.next-need.new.self c.next-need.ensures.follows c.next-need.ensures.steps under in
     let private = subst (λ (need : Need). Follows c.in-Some.program s need c.next-need.new.self) c.in-Private.is step.follows in
     let owned = part c.args.memory.now c.args.tenant in
     let following = step_following c.args.programs.now c.args.self.now c.in-Some.program s c.args.tenant c.next-need.new.self c.args.memory.now step.under private in
     let none : owned.reserve ≡ 0 = omega (arith, c.reserve.ensures, c.if-reserve-eq0.true) in
-    subst (λ p. HasAdvanced p s c.args.tenant 1 c.args.self.now.run c.args.memory.now None c.next-need.new.self c.args.memory.now) (same entry_index v s under)
+    subst (λ p. HasAdvanced p s c.args.tenant 1 c.args.self.now.run c.args.memory.now None c.next-need.new.self c.args.memory.now) (same index v s under)
     (step_private c.args.programs.now c.args.self.now c.in-Some.program s c.args.tenant c.next-need.new.self c.args.memory.now c.args.memory.now
     step.under c.facts-2.ensures private step.counted (none_left owned _ following none) refl)
 
 pub returns-clause-advanced : goal.returns-clause-advanced
 returns-clause-advanced c v s under =
-    let entry_index = (goal.at.returns-clause-advanced c).In-Some in
-    subst (λ p. HasAdvanced p s c.args.tenant 1 c.args.self.now.run c.args.memory.now c.finish_step.result c.finish_step.new.self.run c.finish_step.new.memory) (same entry_index v s under)
+    let index = (goal.at.returns-clause-advanced c).In-Some in
+    subst (λ p. HasAdvanced p s c.args.tenant 1 c.args.self.now.run c.args.memory.now c.finish_step.result c.finish_step.new.self.run c.finish_step.new.memory) (same index v s under)
     (c.finish_step.ensures.advanced c.args.programs.now c.args.self.now s
-    (made entry_index v s c.next-need.result c.next-need.new.self c.next-need.ensures.follows c.next-need.ensures.steps under))
+    (made index v s c.next-need.result c.next-need.new.self c.next-need.ensures.follows c.next-need.ensures.steps under))

@@ -3,7 +3,7 @@ use Rattle.std.proofs.lemmas.Result.{err_from_is_err_and}
 use Rattle.host_types.specs.declared.event.Event.TheVariants.{HostLookup}
 use Rattle.host_core.specs.declared.reply.Reply.TheVariants.{Value}
 use Rattle.host_core.specs.HostView.{IsServed}
-use Rattle.host_core.proofs.Serving.{lookup-into_reply, lookup-refused}
+use Rattle.host_core.proofs.Serving.{lookup-answered, lookup-refused}
 use Rattle.host_core.proofs.tenant.Tenant.lookup.Goals as goal
 
 pub returns-in_err-value : goal.returns-in_err-value
@@ -15,5 +15,5 @@ returns-in_err-value c =
 pub returns : goal.returns
 returns c =
     let event = HostLookup c.args.number c.args.map c.args.key in
-    let served = lookup-into_reply c.args.number c.args.self.now c.args.memory.now c.args.map c.args.key c.in_ok-value.value.items c.in_ok-value.ensures.allowed c.in_ok-value.ensures.value in
+    let served = lookup-answered c.args.number c.args.self.now c.args.memory.now c.args.map c.args.key c.in_ok-value.value.items c.in_ok-value.ensures.allowed c.in_ok-value.ensures.value in
     subst (λ bytes. IsServed c.args.number c.args.self.now c.args.memory.now event (Value bytes) c.args.self.now c.args.memory.now) (sym c.into.ensures) served

@@ -13,13 +13,13 @@ module _ {A B : Type 0} (f : A → B) where
   get_or-there (x ∷ xs) zero = refl
   get_or-there (x ∷ xs) (suc k) = get_or-there xs k
 
-  same_prefix : (xs : List (Option A)) → prefix_len (λ (entry_index : Option B). not (is_none entry_index)) (map (option_map f) xs) ≡ prefix_len (λ (entry_index : Option A). not (is_none entry_index)) xs
+  same_prefix : (xs : List (Option A)) → prefix_len (λ (index : Option B). not (is_none index)) (map (option_map f) xs) ≡ prefix_len (λ (index : Option A). not (is_none index)) xs
   same_prefix [] = refl
   same_prefix (None ∷ xs) = refl
   same_prefix (Some x ∷ xs) = ap (λ n. 1 + n) (same_prefix xs)
 
   -- the same index is the first that is free
-  pub first_free-map : (xs : List (Option A)) → position (λ (entry_index : Option B). is_none entry_index) (map (option_map f) xs) ≡ position (λ (entry_index : Option A). is_none entry_index) xs
+  pub first_free-map : (xs : List (Option A)) → position (λ (index : Option B). is_none index) (map (option_map f) xs) ≡ position (λ (index : Option A). is_none index) xs
   first_free-map xs = rw (same_prefix xs, length-map xs (option_map f)) refl
 
 -- a test of what is made of the things of a list
@@ -48,5 +48,5 @@ slice_get-there (y ∷ xs) zero x e = ap Some e
 slice_get-there (y ∷ xs) (suc k) x e = slice_get-there xs k x e
 
 -- what is said of all that is there holds of what is at an index
-pub all-at : {A : Type 0} (P : A → Type 0) (xs : List (Option A)) (k : ℕ) (x : A) → All (λ entry_index. IfSome entry_index P) xs → slice_get xs k ≡ Some (Some x) → P x
-all-at P xs k x all e = subst (λ entry_index. IfSome entry_index P) (get_or_from_slice_get xs k (Some x) None e) (all k None (slice_get_within xs k (Some x) e))
+pub all-at : {A : Type 0} (P : A → Type 0) (xs : List (Option A)) (k : ℕ) (x : A) → All (λ index. IfSome index P) xs → slice_get xs k ≡ Some (Some x) → P x
+all-at P xs k x all e = subst (λ index. IfSome index P) (get_or_from_slice_get xs k (Some x) None e) (all k None (slice_get_within xs k (Some x) e))
