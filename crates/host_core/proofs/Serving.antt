@@ -45,8 +45,8 @@ is_some-run programs (Some kept) None stands = absurd stands
 is_some-run programs (Some kept) (Some r) stands = refl
 
 -- what a call was reported of the open run of a tenant that it sees so
-pub run_is : (old : TenantView) (programs : List (Option Accepted)) (run : Option KeptRun) (into_reply b : Bool) → ◌≡◌ {A = TenantView} (record { programs = programs; run = run }) old → into_reply ≡ is_some run → into_reply ≡ b → is_some old.run ≡ b
-run_is old programs run into_reply b seen asked is = sym (ap (λ (kept : TenantView). is_some kept.run) seen) ∙ sym asked ∙ is
+pub run_is : (old : TenantView) (programs : List (Option Accepted)) (run : Option KeptRun) (answer b : Bool) → ◌≡◌ {A = TenantView} (record { programs = programs; run = run }) old → answer ≡ is_some run → answer ≡ b → is_some old.run ≡ b
+run_is old programs run answer b seen asked is = sym (ap (λ (kept : TenantView). is_some kept.run) seen) ∙ sym asked ∙ is
 
 -- a refusal that a call passes on, and that changed nothing
 pub passed_on : (t : ℕ) (old : TenantView) (before after : MemoryState) (event : Event) (f : Fault) (result : Result Reply Fault) → IsErrAnd result (λ e. e ≡ f) → after ≡ before

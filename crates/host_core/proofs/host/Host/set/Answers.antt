@@ -7,8 +7,8 @@ use Rattle.host_core.proofs.host.Host.set.Goals as goal
 -- the option is set
 sets : (c : goal.In_ok-host_set) → Leads (record { tenants = c.self.inside.tenants.items; memory = c.self.inside.memory }) (Sets c.args.option c.args.value Done) (record { tenants = c.self.inside.tenants.items; memory = c.host_set.new.memory })
 sets c =
-    let into_reply = c.in_ok-host_set.ensures in
-    leads-set c.self.inside.tenants.items c.self.inside.memory c.host_set.new.memory c.args.option c.args.value into_reply.may.0 into_reply.may.1 into_reply.set into_reply.kept
+    let ensured = c.in_ok-host_set.ensures in
+    leads-set c.self.inside.tenants.items c.self.inside.memory c.host_set.new.memory c.args.option c.args.value ensured.may.0 ensured.may.1 ensured.set ensured.kept
 
 pub invariant_of-self-2 : goal.invariant_of-self-2
 invariant_of-self-2 c = hosts_on _ _ _ (sets c) c.self.invariant
