@@ -106,9 +106,9 @@ leads-unmerge tenants before after enough is kept parts maps x stands =
 
 -- too few frames for that
 unmerge_refused : (x : System) (sharing : Sharing) (have : ℕ) (refusal : Fault) → sharing ≡ x.sharing → have ≡ have_in x → RefusesUnmerge sharing have refusal → UnmergeHappens x (Refused refusal) x
-unmerge_refused x sharing have (fault.NoFrames need into_reply) is there (needs, says, less) =
+unmerge_refused x sharing have (fault.NoFrames need free) is there (needs, says, less) =
     let need_is : need ≡ unmerge_need x.sharing = needs ∙ ap unmerge_need is in
-    let answered_is : into_reply ≡ have_in x = says ∙ there in
+    let answered_is : free ≡ have_in x = says ∙ there in
     inl (rw (sym need_is, sym answered_is) less, (rw (need_is, answered_is) refl, refl))
 unmerge_refused x sharing have refusal is there refuses = absurd refuses
 
@@ -122,9 +122,9 @@ leads-unmerge_refused tenants before after refusal refuses is x stands = (
 
 -- an unmerging whose answer is reported
 pub hosts-unmerge : (old new : HostView) (event : Event) (reply : Reply) (answer : Result Reply Fault) → event ≡ Unmerge → reply ≡ reply_of answer → Leads old (Unmerges (reply_of answer)) new → Hosts old event reply new
-hosts-unmerge old new event reply answer named into_reply leads x stands =
+hosts-unmerge old new event reply answer named replied leads x stands =
     let after = leads x stands in
-    (after.0, after.1, rw (named, into_reply) after.2, rw named tt)
+    (after.0, after.1, rw (named, replied) after.2, rw named tt)
 
 -- where the tenant that an event names isn't there
 missing_at : (s t : ℕ) (x : System) → ◌≡◌ {A = Option ℕ} (Some s) (Some t) → slice_get x.world t ≡ None → slice_get x.world s ≡ None

@@ -114,7 +114,7 @@ shape-found None = refl
 shape-found (Some flat) = refl
 
 -- what a lent list of the indices says of a map's use
-pub lent-used : (kept : TenantView) (lent : List (Option Accepted)) (m : ℕ) {into_reply : Bool} → lent ≡ kept.programs → into_reply ≡ list_any (names_in m) lent → list_any (names_in m) kept.programs ≡ into_reply
+pub lent-used : (kept : TenantView) (lent : List (Option Accepted)) (m : ℕ) {used : Bool} → lent ≡ kept.programs → used ≡ list_any (names_in m) lent → list_any (names_in m) kept.programs ≡ used
 lent-used kept lent m same says = ap (λ programs. list_any (names_in m) programs) (sym same) ∙ sym says
 
 -- both sides say the same of a map's use
