@@ -81,6 +81,7 @@ impl Host {
 
     /// Opens a run of a tenant's loaded program on a context: the reply is that of `apply` to `Event::Begin`. The context is
     /// read where it is, and the call takes memory only where it is longer than those of the tenant's runs before.
+    #[inline(always)]
     pub fn begin(&mut self, tenant: u32, program: u32, context: &[u8]) -> Reply
         ensures { (x : System) → StandsForSystem self.old x
             → (next : System) × StandsForSystem self.new next
@@ -110,6 +111,7 @@ impl Host {
     /// Makes steps of a tenant's open run, up to a limit, and none after one with which the run ends or
     /// that is refused: the reply to that one, or `None` where the limit comes first. A run makes fewer
     /// than 2^32 steps, so that such a limit never comes first. It takes no memory.
+    #[inline(always)]
     pub fn make_steps(&mut self, tenant: u32, limit: u64) -> Option<Reply>
         ensures steps { (x : System) → StandsForSystem self.old x
             → (next : System) × StandsForSystem self.new next × StepsHappen x tenant limit result next }
@@ -147,6 +149,7 @@ impl Host {
     }
 
     /// Lets a run open, without the way through all other events.
+    #[inline(always)]
     fn begin_run(&mut self, tenant: u32, program: u32, context: &[u8]) -> Reply
         ensures { (x : System) → StandsForSystem self.old x
             → (next : System) × StandsForSystem self.new next
@@ -229,6 +232,7 @@ impl Host {
 }
 
 /// A refusal is a reply too.
+#[inline(always)]
 pub fn into_reply(served: Result<Reply, Fault>) -> Reply
     ensures { result ≡ reply_of served }
 {

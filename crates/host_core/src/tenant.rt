@@ -187,6 +187,7 @@ impl Tenant {
     }
 
     /// Serves the event that opens a run of a program.
+    #[inline(always)]
     pub(crate) fn begin_run(
         &mut self,
         memory: &mut Memory,
@@ -201,6 +202,7 @@ impl Tenant {
     }
 
     /// Opens a run of a program, with the frames that it may need.
+    #[inline(always)]
     fn begin(
         &mut self,
         memory: &mut Memory,
@@ -322,6 +324,7 @@ impl Tenant {
 
     /// Makes steps of the open run, up to a limit: the reply to the last one, or `None` where each of them was
     /// made and the run goes on.
+    #[inline(always)]
     pub(crate) fn make_steps(
         &mut self,
         memory: &mut Memory,
@@ -346,6 +349,7 @@ impl Tenant {
 
     /// Makes steps of the open run in one go, at most up to a limit: all up to the first that asks for an update or a
     /// deletion in the tenant's maps or with which the run ends.
+    #[inline(always)]
     fn batch(&mut self, memory: &mut Memory, number: u32, limit: u64) -> Batch
         requires some { 0 < limit }
         requires kept { IsKept number self.old memory.old }
@@ -497,6 +501,7 @@ impl OpenRun {
 
     /// Makes steps up to a limit, and none after the first that asks for an update or a deletion in the tenant's maps:
     /// what the run returned, where it ended. What is reserved afterwards is what the rest of the run may need.
+    #[inline(always)]
     fn advance(
         &mut self,
         programs: &[Option<Verified>],
