@@ -8,7 +8,7 @@ ghost use Rattle.host_core.specs.World.{System, IsCovered, FoundIsOpen, new_syst
 ghost use Rattle.host_core.specs.Happens.{Happens, IsPromised, AllHappen, StepsHappen, SetHappens, UnmergeHappens, JoinHappens, SplitHappens};
 ghost use Rattle.host_core.specs.HostView.{StandsForSystem, reply_of};
 ghost use Rattle.host_types.specs.Events.{tenant_of};
-ghost use Rattle.host_types.specs.declared.event.Event.TheVariants.{Begin, Step};
+ghost use Rattle.host_types.specs.declared.event.Event.TheVariants.{Begin, HostUpdate, Load, Step};
 
 use crate::reply::Reply;
 use crate::tenant::Tenant;
@@ -92,6 +92,29 @@ impl Host {
         reply
     }
 
+    /// Loads a program's text for a tenant: the reply is that of `apply` to `Event::Load`. The text is read where it is, and the call takes memory
+    /// only once nothing else is refused.
+    pub fn load(&mut self, tenant: u32, text: &[u8], context_size: u32) -> Reply
+        ensures { (x : System) → StandsForSystem self.old x
+            → (next : System) × StandsForSystem self.new next
+            × Happens x (Load tenant text.now context_size) result next × IsPromised x (Load tenant text.now context_size) result next × IsCovered next }
+    {
+        let reply = self.load_text(tenant, text, context_size);
+        self.memory.facts();
+        reply
+    }
+
+    /// Writes a value to an element of a tenant's map: the reply is that of `apply` to `Event::HostUpdate`. The value is read where it is.
+    pub fn update(&mut self, tenant: u32, map: MapNo, key: u32, value: &[u8]) -> Reply
+        ensures { (x : System) → StandsForSystem self.old x
+            → (next : System) × StandsForSystem self.new next
+            × Happens x (HostUpdate tenant map key value.now) result next × IsPromised x (HostUpdate tenant map key value.now) result next × IsCovered next }
+    {
+        let reply = self.update_value(tenant, map, key, value);
+        self.memory.facts();
+        reply
+    }
+
     /// Lets events happen in their order, and gives the reply to each. Room for the replies is
     /// reserved first: where there is none, nothing happens.
     pub fn apply_all(&mut self, events: &[Event]) -> Result<Vec<Reply>, AllocError>
@@ -160,6 +183,38 @@ impl Host {
             return Reply::Refused(Fault::BadTenant);
         }
         self.tenants[index].begin_run(&mut self.memory, tenant, program, context)
+    }
+
+    /// Lets a text be loaded, without the way through all other events.
+    fn load_text(&mut self, tenant: u32, text: &[u8], context_size: u32) -> Reply
+        ensures { (x : System) → StandsForSystem self.old x
+            → (next : System) × StandsForSystem self.new next
+            × Happens x (Load tenant text.now context_size) result next × IsPromised x (Load tenant text.now context_size) result next }
+    {
+        let entry_index = tenant as usize;
+        if entry_index >= self.tenants.len() {
+            return Reply::Refused(Fault::BadTenant);
+        }
+        self.tenants[entry_index].load_text(
+            self.alloc,
+            &mut self.memory,
+            tenant,
+            text,
+            context_size,
+        )
+    }
+
+    /// Lets a value be written, without the way through all other events.
+    fn update_value(&mut self, tenant: u32, map: MapNo, key: u32, value: &[u8]) -> Reply
+        ensures { (x : System) → StandsForSystem self.old x
+            → (next : System) × StandsForSystem self.new next
+            × Happens x (HostUpdate tenant map key value.now) result next × IsPromised x (HostUpdate tenant map key value.now) result next }
+    {
+        let entry_index = tenant as usize;
+        if entry_index >= self.tenants.len() {
+            return Reply::Refused(Fault::BadTenant);
+        }
+        self.tenants[entry_index].update_value(&mut self.memory, tenant, map, key, value)
     }
 
     /// Lets any event happen.

@@ -186,6 +186,36 @@ impl Tenant {
         Ok(Reply::Program(index as u32))
     }
 
+    /// Serves the event that loads a program's text.
+    pub(crate) fn load_text(
+        &mut self,
+        alloc: Global,
+        memory: &mut Memory,
+        number: u32,
+        text: &[u8],
+        context_size: u32,
+    ) -> Reply
+        requires kept { IsKept number self.old memory.old }
+        ensures { IsServed number self.old memory.old (Load number text.now context_size) result self.new memory.new }
+    {
+        into_reply(self.load(alloc, memory, number, text, context_size))
+    }
+
+    /// Serves the event that writes a value to a map.
+    pub(crate) fn update_value(
+        &mut self,
+        memory: &mut Memory,
+        number: u32,
+        map: MapNo,
+        key: u32,
+        value: &[u8],
+    ) -> Reply
+        requires kept { IsKept number self.old memory.old }
+        ensures { IsServed number self.old memory.old (HostUpdate number map key value.now) result self.new memory.new }
+    {
+        into_reply(self.update(memory, number, map, key, value))
+    }
+
     /// Serves the event that opens a run of a program.
     #[inline(always)]
     pub(crate) fn begin_run(

@@ -1,0 +1,33 @@
+use Rattle.std.proofs.Common.{◌≤◌, length, set, refl, subst, arith}
+use Rattle.std.proofs.lemmas.Option.{slice_get_past}
+use Rattle.host_types.specs.declared.fault.Fault.TheVariants.{BadTenant}
+use Rattle.host_types.specs.declared.event.Event.TheVariants.{Load}
+use Rattle.host_core.specs.declared.reply.Reply.TheVariants.{Refused}
+use Rattle.host_core.specs.HostView.{HostView}
+use Rattle.host_core.proofs.Hosting.{Hosts, hosts-served, hosts-no_tenant, tenant_there, kept_in}
+use Rattle.host_core.proofs.host.Host.load_text.Goals as goal
+
+pub returns-then-entry_index-len : goal.returns-then-entry_index-len
+returns-then-entry_index-len c =
+    let past : length c.self.inside.tenants.items ≤ c.args.tenant = omega (arith, c.self.inside.tenants.ok.0) in
+    subst (λ view. Hosts view (Load c.args.tenant c.args.text.now c.args.context_size) (Refused BadTenant) view) c.self.view_is
+    (hosts-no_tenant c.self.inside.tenants.items c.self.inside.memory c.args.tenant (Load c.args.tenant c.args.text.now c.args.context_size) refl (slice_get_past _ _ past))
+
+pub load_text-requires : goal.load_text-requires
+load_text-requires c = record {
+  kept = kept_in c.self.inside.tenants.items c.self.inside.memory c.args.tenant c.index_mut.result.now c.self.invariant (omega (arith, c.self.inside.tenants.ok.0)) c.index_mut.ensures.value;
+}
+
+abbrev new : goal.After-self-1 → HostView
+new c = record { tenants = set c.self.inside.tenants.items c.args.tenant c.load_text.new.self; memory = c.load_text.new.memory }
+
+serves : (c : goal.After-self-1) → Hosts (record { tenants = c.self.inside.tenants.items; memory = c.self.inside.memory }) (Load c.args.tenant c.args.text.now c.args.context_size) c.load_text.result (new c)
+serves c =
+    hosts-served c.self.inside.tenants.items c.self.inside.memory c.load_text.new.memory c.args.tenant c.index_mut.result.now c.load_text.new.self (Load c.args.tenant c.args.text.now c.args.context_size) c.load_text.result
+    (tenant_there c.self.inside.tenants.items c.args.tenant c.index_mut.result.now (omega (arith, c.self.inside.tenants.ok.0)) c.index_mut.ensures.value) c.load_text.ensures
+
+pub invariant_of-self : goal.invariant_of-self
+invariant_of-self c = let after = serves c c.self.invariant.0 c.self.invariant.1 in (after.0, after.1)
+
+pub returns : goal.returns
+returns c = subst (λ old. Hosts old (Load c.args.tenant c.args.text.now c.args.context_size) c.load_text.result (new c)) c.self.view_is (serves c)

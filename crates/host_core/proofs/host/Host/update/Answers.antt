@@ -1,0 +1,11 @@
+use Rattle.std.proofs.Common.{subst}
+use Rattle.page_table.specs.Reads.{ReadsAs}
+use Rattle.host_types.specs.declared.event.Event.TheVariants.{HostUpdate}
+use Rattle.host_core.specs.HostView.{HostView}
+use Rattle.host_core.proofs.Hosting.{hosts-covered}
+use Rattle.host_core.proofs.host.Host.update.Goals as goal
+
+pub returns : goal.returns
+returns c =
+    let reads : ReadsAs c.update_value-reply.new.self.memory = subst (λ (view : HostView). ReadsAs view.memory) c.self.view_is c.facts.ensures in
+    hosts-covered c.args.self.now c.update_value-reply.new.self (HostUpdate c.args.tenant c.args.map c.args.key c.args.value.now) c.update_value-reply.result c.update_value-reply.ensures reads

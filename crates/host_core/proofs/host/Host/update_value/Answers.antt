@@ -1,0 +1,33 @@
+use Rattle.std.proofs.Common.{◌≤◌, length, set, refl, subst, arith}
+use Rattle.std.proofs.lemmas.Option.{slice_get_past}
+use Rattle.host_types.specs.declared.fault.Fault.TheVariants.{BadTenant}
+use Rattle.host_types.specs.declared.event.Event.TheVariants.{HostUpdate}
+use Rattle.host_core.specs.declared.reply.Reply.TheVariants.{Refused}
+use Rattle.host_core.specs.HostView.{HostView}
+use Rattle.host_core.proofs.Hosting.{Hosts, hosts-served, hosts-no_tenant, tenant_there, kept_in}
+use Rattle.host_core.proofs.host.Host.update_value.Goals as goal
+
+pub returns-then-entry_index-len : goal.returns-then-entry_index-len
+returns-then-entry_index-len c =
+    let past : length c.self.inside.tenants.items ≤ c.args.tenant = omega (arith, c.self.inside.tenants.ok.0) in
+    subst (λ view. Hosts view (HostUpdate c.args.tenant c.args.map c.args.key c.args.value.now) (Refused BadTenant) view) c.self.view_is
+    (hosts-no_tenant c.self.inside.tenants.items c.self.inside.memory c.args.tenant (HostUpdate c.args.tenant c.args.map c.args.key c.args.value.now) refl (slice_get_past _ _ past))
+
+pub update_value-requires : goal.update_value-requires
+update_value-requires c = record {
+  kept = kept_in c.self.inside.tenants.items c.self.inside.memory c.args.tenant c.index_mut.result.now c.self.invariant (omega (arith, c.self.inside.tenants.ok.0)) c.index_mut.ensures.value;
+}
+
+abbrev new : goal.After-self-1 → HostView
+new c = record { tenants = set c.self.inside.tenants.items c.args.tenant c.update_value.new.self; memory = c.update_value.new.memory }
+
+serves : (c : goal.After-self-1) → Hosts (record { tenants = c.self.inside.tenants.items; memory = c.self.inside.memory }) (HostUpdate c.args.tenant c.args.map c.args.key c.args.value.now) c.update_value.result (new c)
+serves c =
+    hosts-served c.self.inside.tenants.items c.self.inside.memory c.update_value.new.memory c.args.tenant c.index_mut.result.now c.update_value.new.self (HostUpdate c.args.tenant c.args.map c.args.key c.args.value.now) c.update_value.result
+    (tenant_there c.self.inside.tenants.items c.args.tenant c.index_mut.result.now (omega (arith, c.self.inside.tenants.ok.0)) c.index_mut.ensures.value) c.update_value.ensures
+
+pub invariant_of-self : goal.invariant_of-self
+invariant_of-self c = let after = serves c c.self.invariant.0 c.self.invariant.1 in (after.0, after.1)
+
+pub returns : goal.returns
+returns c = subst (λ old. Hosts old (HostUpdate c.args.tenant c.args.map c.args.key c.args.value.now) c.update_value.result (new c)) c.self.view_is (serves c)
