@@ -191,11 +191,11 @@ impl Host {
             → (next : System) × StandsForSystem self.new next
             × Happens x (Load tenant text.now context_size) result next × IsPromised x (Load tenant text.now context_size) result next }
     {
-        let entry_index = tenant as usize;
-        if entry_index >= self.tenants.len() {
+        let index = tenant as usize;
+        if index >= self.tenants.len() {
             return Reply::Refused(Fault::BadTenant);
         }
-        self.tenants[entry_index].load_text(
+        self.tenants[index].load_text(
             self.alloc,
             &mut self.memory,
             tenant,
@@ -210,11 +210,11 @@ impl Host {
             → (next : System) × StandsForSystem self.new next
             × Happens x (HostUpdate tenant map key value.now) result next × IsPromised x (HostUpdate tenant map key value.now) result next }
     {
-        let entry_index = tenant as usize;
-        if entry_index >= self.tenants.len() {
+        let index = tenant as usize;
+        if index >= self.tenants.len() {
             return Reply::Refused(Fault::BadTenant);
         }
-        self.tenants[entry_index].update_value(&mut self.memory, tenant, map, key, value)
+        self.tenants[index].update_value(&mut self.memory, tenant, map, key, value)
     }
 
     /// Lets any event happen.

@@ -7,8 +7,8 @@ use Rattle.host_core.specs.HostView.{HostView}
 use Rattle.host_core.proofs.Hosting.{Hosts, hosts-served, hosts-no_tenant, tenant_there, kept_in}
 use Rattle.host_core.proofs.host.Host.load_text.Goals as goal
 
-pub returns-then-entry_index-len : goal.returns-then-entry_index-len
-returns-then-entry_index-len c =
+pub returns-then-index-len : goal.returns-then-index-len
+returns-then-index-len c =
     let past : length c.self.inside.tenants.items ≤ c.args.tenant = omega (arith, c.self.inside.tenants.ok.0) in
     subst (λ view. Hosts view (Load c.args.tenant c.args.text.now c.args.context_size) (Refused BadTenant) view) c.self.view_is
     (hosts-no_tenant c.self.inside.tenants.items c.self.inside.memory c.args.tenant (Load c.args.tenant c.args.text.now c.args.context_size) refl (slice_get_past _ _ past))
