@@ -69,11 +69,13 @@ PrintsVerdict asked status line =
     ((status ≡ 0) × ((accepted : Accepted) × (line ≡ line_of (acceptance_of accepted)) × IsAccepted (subject_asked asked) accepted))
     ⊎ ((status ≡ 1) × ((fault : Fault) × (line ≡ line_of (refusal_text fault)) × IsCheckRefusal asked fault))
 
+-- a status and what an output took give the judgement of what is asked for
+abbrev pub AnswersRequest : CheckRequest → Option (List ℕ) → Option (List ℕ) → ℕ → Type 0
+AnswersRequest asked old new status = (line : List ℕ) × PrintsVerdict asked status line × Appends old new line
+
 -- a status and what an output took give the judgement of what the words ask for
 abbrev pub AnswersWords : List ℕ → List (Bor (List ℕ)) → List ℕ → Option (List ℕ) → Option (List ℕ) → ℕ → Type 0
-AnswersWords hex maps context old new status =
-    (asked : CheckRequest) × (line : List ℕ) × IsAsked hex maps context asked
-    × PrintsVerdict asked status line × Appends old new line
+AnswersWords hex maps context old new status = (asked : CheckRequest) × IsAsked hex maps context asked × AnswersRequest asked old new status
 
 -- the words ask for nothing that can be verified
 abbrev pub AskNothing : List ℕ → List (Bor (List ℕ)) → List ℕ → Type 0

@@ -5,7 +5,7 @@ ghost use Rattle.std.specs.Io.KnownBytes.{Appends};
 ghost use Rattle.host_types.specs.Refusals.{refusal_text};
 ghost use Rattle.host_types.specs.Shapes.{IsShape};
 ghost use Rattle.host_file.specs.Faults.{IsBad, IsOfWords, IsUsage};
-ghost use Rattle.engines.specs.Check.{AnswersWords, AskNothing, IsAccepted, IsCheckRefusal, acceptance_of, subject_asked};
+ghost use Rattle.engines.specs.Check.{AnswersRequest, AnswersWords, AskNothing, IsAccepted, IsCheckRefusal, acceptance_of, subject_asked};
 ghost use Rattle.engines.specs.Lines.{line_of};
 
 mod acceptance;
@@ -43,7 +43,22 @@ pub fn check<W: Write, E: Write>(
     ensures silent { OnErr result (diagnostics.new ≡ diagnostics.old) }
 {
     let asked = check_request_of(alloc, hex, shapes, context)?;
-    match judgement(alloc, &asked) {
+    answer_request(alloc, &asked, output, diagnostics)
+}
+
+/// Verifies a program that is asked for, and writes what `check` writes of it. Answers the status.
+pub fn answer_request<W: Write, E: Write>(
+    alloc: Global,
+    asked: &CheckRequest,
+    output: &mut W,
+    diagnostics: &mut E,
+) -> Result<u8, FileFault>
+    ensures status { IfOk result (λ status. status ≤ 1) }
+    ensures verdict { IfOk result (AnswersRequest asked.now (W.contents output.old) (W.contents output.new)) }
+    ensures words { IfErr result (λ fault. ¬ IsOfWords fault) }
+    ensures silent { OnErr result (diagnostics.new ≡ diagnostics.old) }
+{
+    match judgement(alloc, asked) {
         Ok(program) => {
             print_accepted(output, &program)?;
             Ok(0)
@@ -51,7 +66,7 @@ pub fn check<W: Write, E: Write>(
         Err(fault) => {
             write_refusal(output, fault)?;
             // The answer is written: what it means may be lost.
-            let _ = explain_check(alloc, diagnostics, &asked, fault);
+            let _ = explain_check(alloc, diagnostics, asked, fault);
             Ok(1)
         }
     }

@@ -1,13 +1,14 @@
 //! The answer to a request.
 
 use crate::folds::folded;
-use crate::view::{Shown, Words, write_view};
+use crate::view::{Shown, write_view};
 use command_line::{Asked, ToExplain, explained_of};
-use engines::check::{CheckRequest, check, check_request_of};
+use engines::check::{CheckRequest, check_request_of};
 use engines::written;
+use explained_text::VerdictWords;
 use findings::CheckedText;
-use hex::encode;
 use host_file::FileFault;
+use host_types::Bytes;
 use listing::{Beside, Listing, Paint};
 use lowered_text::{Copies, lowered, write_stop};
 use lowering::Lowered;
@@ -75,7 +76,7 @@ fn explain<W: Write>(
     show(
         alloc,
         asked,
-        hex,
+        &request,
         shown,
         listing.as_ref(),
         note.as_slice(),
@@ -88,14 +89,13 @@ fn explain<W: Write>(
 fn explain_lowered<W: Write>(
     alloc: Global,
     asked: &ToExplain<'_>,
-    request: &CheckRequest,
+    original: &CheckRequest,
     lowered: &Lowered,
     paint: Paint,
     output: &mut W,
 ) -> Result<u8, FileFault> {
-    let hex = encode(alloc, lowered.text.as_slice())?;
     let copies = Copies {
-        text: request.text.as_slice(),
+        text: original.text.as_slice(),
         lowered,
     };
     let folded = folded(alloc, &copies)?;
@@ -103,8 +103,13 @@ fn explain_lowered<W: Write>(
         origins: lowered.origins.as_slice(),
         folded: folded.as_slice(),
     };
+    let request = CheckRequest {
+        text: Bytes::from(lowered.text.clone()?),
+        shapes: original.shapes.clone()?,
+        context_size: original.context_size,
+    };
     let checked = CheckedText {
-        text: lowered.text.as_slice(),
+        text: request.text.as_slice(),
         shapes: request.shapes.as_slice(),
         context_size: request.context_size,
     };
@@ -113,39 +118,20 @@ fn explain_lowered<W: Write>(
         paint,
         is_lowered: true,
     };
-    show(
-        alloc,
-        asked,
-        hex.as_str(),
-        shown,
-        listing.as_ref(),
-        &[],
-        output,
-    )
+    show(alloc, asked, &request, shown, listing.as_ref(), &[], output)
 }
 
-/// Verifies the program of a hex text, and shows it with its listing. Answers the status of `check`.
+/// Verifies a program, and shows it with its listing. Answers the status of `check`.
 fn show<W: Write>(
     alloc: Global,
     asked: &ToExplain<'_>,
-    hex: &str,
+    request: &CheckRequest,
     shown: Shown,
     listing: Option<&Listing<'_>>,
     note: &[u8],
     output: &mut W,
 ) -> Result<u8, FileFault> {
-    let mut words = Words {
-        line: Vec::new(alloc),
-        meant: Vec::new(alloc),
-    };
-    let status = check(
-        alloc,
-        hex,
-        asked.shapes.as_slice(),
-        asked.context,
-        &mut words.line,
-        &mut words.meant,
-    )?;
-    written(write_view(alloc, output, asked, shown, listing, &words, note))?;
-    Ok(status)
+    let verdict = VerdictWords::of(alloc, request)?;
+    written(write_view(alloc, output, asked, shown, listing, &verdict, note))?;
+    Ok(verdict.status)
 }

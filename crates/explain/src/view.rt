@@ -1,7 +1,8 @@
 //! What is shown of a program, as text or as a page.
 
 use command_line::ToExplain;
-use listing::{Detail, Listing, Paint, Text, fold};
+use explained_text::{VerdictWords, write_explained, write_folded};
+use listing::{Detail, Listing, Paint, Text};
 use listing_page::{Page, write_page};
 use std::alloc::{AllocError, Global};
 use std::io::{self, Write};
@@ -15,15 +16,6 @@ pub struct Shown {
     pub is_lowered: bool,
 }
 
-/// What `check` writes of a program.
-#[derive(Drop)]
-pub struct Words {
-    /// The line of its verdict.
-    pub line: Vec<u8>,
-    /// What a refusal means.
-    pub meant: Vec<u8>,
-}
-
 /// Writes the line of `check` for a program, its listing, what a refusal means, and a note on what stopped a lowering.
 pub fn write_view<W: Write>(
     alloc: Global,
@@ -31,47 +23,29 @@ pub fn write_view<W: Write>(
     asked: &ToExplain<'_>,
     shown: Shown,
     listing: Option<&Listing<'_>>,
-    words: &Words,
+    verdict: &VerdictWords,
     note: &[u8],
 ) -> io::Result<()> {
     if asked.html {
-        write_html(alloc, output, asked, shown.is_lowered, listing, words, note)?;
+        write_html(
+            alloc,
+            output,
+            asked,
+            shown.is_lowered,
+            listing,
+            verdict,
+            note,
+        )?;
     } else {
         let detail = if asked.all { Detail::All } else { Detail::Read };
         let text = Text {
             detail,
             paint: shown.paint,
         };
-        output.write_all(words.line.as_slice())?;
-        write_text(output, text, listing, words.meant.as_slice())?;
-        write_words(output, note)?;
+        write_explained(output, text, listing, verdict)?;
+        write_folded(output, note)?;
     }
     output.flush()
-}
-
-/// Writes a listing as text, with what a refusal means after the slot that is refused.
-fn write_text<W: Write>(
-    output: &mut W,
-    text: Text,
-    listing: Option<&Listing<'_>>,
-    meant: &[u8],
-) -> io::Result<()> {
-    if let Some(listing) = listing {
-        text.write_rows(output, listing)?;
-    }
-    write_words(output, meant)?;
-    match listing {
-        Some(listing) => text.write_further(output, listing),
-        None => Ok(()),
-    }
-}
-
-/// Writes words in lines of at most 100 columns, if there are any.
-fn write_words<W: Write>(output: &mut W, words: &[u8]) -> io::Result<()> {
-    match text_of(words) {
-        "" => Ok(()),
-        words => fold(output, words),
-    }
 }
 
 /// Writes a listing as a page.
@@ -81,16 +55,16 @@ fn write_html<W: Write>(
     asked: &ToExplain<'_>,
     is_lowered: bool,
     listing: Option<&Listing<'_>>,
-    words: &Words,
+    verdict: &VerdictWords,
     note: &[u8],
 ) -> io::Result<()> {
     let program = program_named(alloc, asked.hex)?;
     let page = Page {
         alloc,
         program: program.as_str(),
-        verdict: text_of(words.line.as_slice()),
-        is_accepted: words.line.starts_with(b"accepted"),
-        said: text_of(words.meant.as_slice()),
+        verdict: text_of(verdict.line.as_slice()),
+        is_accepted: verdict.line.starts_with(b"accepted"),
+        said: text_of(verdict.meant.as_slice()),
         note: text_of(note),
         shapes: asked.shapes.as_slice(),
         context: asked.context,
