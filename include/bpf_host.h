@@ -17,11 +17,12 @@
  *     32 to 45    as docs/HOST.md lists them; 41: memory ran out
  *     100         the handle is closed
  *     101         the handle is open already (bpf_host_new)
- *     102         the buffer has another length than the value (bpf_host_lookup), or the contexts can't have one size (bpf_host_run_many)
+ *     102         the buffer has another length than the value (bpf_host_lookup) or is too short (bpf_host_lower, bpf_host_explain), or the contexts
+ *                 can't have one size (bpf_host_run_many)
  * bpf_host_load and _update copy what they are given first: where there is no memory for that, they return 41 whatever else but 100 would be
  * refused. bpf_host_begin and _run take memory only where the context is longer than those of the tenant's runs before.
  * A call that doesn't return 0 changed nothing: neither the host nor what the caller's pointers lead to, but for the members of
- * `*refused` that the number speaks of (slot; need and have).
+ * `*refused` that the number speaks of (slot; need and have), and `*written` where a buffer is too short.
  *
  * WHAT THE CALLER OWES AT EACH CALL. No proof covers it.
  *   - No pointer is null, and each leads to an object of its type that is initialised: a `struct bpf_host` to all zeros at first, a `bool`
@@ -179,6 +180,25 @@ uint32_t bpf_host_unmerge(struct bpf_host *host, struct bpf_host_refused *refuse
 
 /* Writes the counters. 100. */
 uint32_t bpf_host_counters(struct bpf_host *host, struct bpf_host_counters *counters);
+
+/* CALLS ON A TEXT ALONE. They need no handle, and may be made on several threads at a time. `shapes` has the shapes of the maps that the
+ * text may use, by number; one of two zeros is that of no map. */
+
+/* Verifies a text for maps of these shapes and contexts of `context_size` bytes: what bpf_host_load answers a tenant with such maps. 32, 33,
+ * 39, 1 to 25, 41. */
+uint32_t bpf_host_verify(const uint8_t *text, size_t text_len, const struct bpf_host_shape *shapes, size_t shapes_len, uint32_t context_size,
+                         struct bpf_host_refused *refused);
+
+/* Makes a text with the same runs that the verifier accepts, with blocks in another order and loops in several copies (docs/LOWER.md), and writes
+ * how many bytes it has to `*written`: at most 32768. A text that is accepted stays as it is. 102 where `lowered_len` is less: then `lowered` stays
+ * as it was. 32, 33, 39, 41, and 1 to 25 as bpf_host_verify refuses the text where the lowering doesn't help. */
+uint32_t bpf_host_lower(const uint8_t *text, size_t text_len, const struct bpf_host_shape *shapes, size_t shapes_len, uint32_t context_size,
+                        uint8_t *lowered, size_t lowered_len, size_t *written, struct bpf_host_refused *refused);
+
+/* Writes what the program `explain` prints of a text, accepted or refused, without colours (docs/EXPLAIN.md): UTF-8 with no zero at its end, and
+ * how many bytes that is to `*written`. 102 where `explained_len` is less: then `explained` stays as it was. 41. */
+uint32_t bpf_host_explain(const uint8_t *text, size_t text_len, const struct bpf_host_shape *shapes, size_t shapes_len, uint32_t context_size,
+                          char *explained, size_t explained_len, size_t *written);
 
 /* The name of what a call returned. */
 static inline const char *bpf_host_code_name(uint32_t code)

@@ -57,5 +57,6 @@ void test_rows_of_programs(void);
 void test_rows_of_merging(void);
 void test_refusals(void);
 void test_handles(void);
+void test_texts(void);
 
 #endif

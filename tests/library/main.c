@@ -97,6 +97,7 @@ int main(void)
     test_rows_of_merging();
     test_refusals();
     test_handles();
+    test_texts();
     printf("%u checks, %u failed\n", checks, failures);
     return failures != 0;
 }

@@ -127,4 +127,33 @@ extern "C" {
     pub fn bpf_host_set(host: *mut Handle, option: u32, value: u32) -> u32;
     pub fn bpf_host_unmerge(host: *mut Handle, refused: *mut Refused) -> u32;
     pub fn bpf_host_counters(host: *mut Handle, counters: *mut Counters) -> u32;
+    pub fn bpf_host_verify(
+        text: *const u8,
+        text_len: usize,
+        shapes: *const Shape,
+        shapes_len: usize,
+        context_size: u32,
+        refused: *mut Refused,
+    ) -> u32;
+    pub fn bpf_host_lower(
+        text: *const u8,
+        text_len: usize,
+        shapes: *const Shape,
+        shapes_len: usize,
+        context_size: u32,
+        lowered: *mut u8,
+        lowered_len: usize,
+        written: *mut usize,
+        refused: *mut Refused,
+    ) -> u32;
+    pub fn bpf_host_explain(
+        text: *const u8,
+        text_len: usize,
+        shapes: *const Shape,
+        shapes_len: usize,
+        context_size: u32,
+        explained: *mut u8,
+        explained_len: usize,
+        written: *mut usize,
+    ) -> u32;
 }

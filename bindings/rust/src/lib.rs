@@ -52,7 +52,9 @@ mod ffi;
 mod host;
 mod refused;
 mod tenant;
+mod text;
 
 pub use host::{Counters, Host, Options, Setting};
 pub use refused::{Frames, Refused};
 pub use tenant::{Map, OpenRun, Program, Run, Shape, Tenant};
+pub use text::{explain, lower, verify};

@@ -1,6 +1,7 @@
 //! What a program in Rust sees of a host: values, refusals and counters of docs/HOST.md and docs/MERGING.md.
 
 use bpf_host::{Counters, Frames, Host, Options, Refused, Run, Setting, Shape};
+use bpf_host::{explain, lower, verify};
 
 /// r0 = 42, exit.
 const ANSWER: &str = "b70000002a0000009500000000000000";
@@ -201,4 +202,46 @@ fn each_option_is_set_by_its_name() {
         ..Options::default()
     };
     assert_eq!(Host::new(4, 1, alone).err().unwrap().name(), "BadOption");
+}
+
+#[test]
+fn a_text_is_verified_for_maps_by_number() {
+    let shape = Some(Shape {
+        value_size: 8,
+        entries: 1,
+    });
+    assert_eq!(verify(&text(COUNTER), &[shape], 0), Ok(()));
+    let refused = verify(&text(COUNTER), &[None, shape], 0).unwrap_err();
+    assert_eq!(refused.to_string(), "refused 24 UnknownMap at 3");
+    assert_eq!(code(verify(&text(ANSWER), &[], 7)), 39);
+    assert_eq!(code(verify(&text(ANSWER), &[shape; 9], 0)), 32);
+}
+
+#[test]
+fn a_loop_is_lowered_to_copies() {
+    // A row of crates/lower/rows, worked out by hand.
+    let loops = text("b7000000000000000700000001000000a500feff030000009500000000000000");
+    let copies = text(
+        "b7000000000000000700000001000000a50001000300000005000500000000000700000001000000a500010003000000\
+         05000200000000000700000001000000a50001000300000095000000000000000500fcff00000000",
+    );
+    assert_eq!(lower(&loops, &[], 0), Ok(copies));
+    assert_eq!(lower(&text(ANSWER), &[], 0), Ok(text(ANSWER)));
+    let host = host(2, 1);
+    let lowered = lower(&loops, &[], 0).unwrap();
+    let program = host.tenant(0).load(&lowered, 0).unwrap();
+    assert_eq!(program.run(&[]).unwrap().ret, 3);
+    assert_eq!(code(lower(&text("0500ffff00000000"), &[], 0).map(drop)), 11);
+}
+
+#[test]
+fn a_text_is_explained_in_lines() {
+    let lines = "accepted slots 2 instructions 2 reserve 0\n   \
+        0  b70000002a000000  r0 = 42\n   \
+        1  9500000000000000  exit                            ; r0 = 42\n";
+    assert_eq!(explain(&text(ANSWER), &[], 0).as_deref(), Ok(lines));
+    let refused = explain(&text("bf12000000000000"), &[], 0).unwrap();
+    assert!(refused.starts_with("refused 13 FallsOff at 0\n"), "{refused}");
+    let long = [text(ANSWER)[..8].repeat(4095), text(ANSWER)[8..].to_vec()].concat();
+    assert!(explain(&long, &[], 0).unwrap().lines().count() > 4096);
 }

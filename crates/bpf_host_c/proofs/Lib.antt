@@ -1,3 +1,5 @@
 pub mod Values
 pub mod Pointers
 pub mod Answering
+pub mod Buffers
+pub mod Textual

@@ -1,5 +1,6 @@
 -- What a call returns and writes of its answer. What the answer doesn't speak of is as it was.
 use Rattle.std.specs.Prelude.{ℕ, List, length, ◌==◌, if◌then◌else◌, Bool, true, false, Option, Some, None}
+use Rattle.host_types.specs.declared.fault.Fault.{Fault}
 use Rattle.host_types.specs.declared.fault.Fault.TheVariants.{Program as Unaccepted, NoFrames}
 use Rattle.host_types.specs.Refusals.{fault_number}
 use Rattle.host_types.specs.declared.options.Opt.{Opt}
@@ -50,9 +51,14 @@ counters_written (Replied (AreCounters counters)) old = record {
 counters_written answer old = old
 
 -- the slot of a program's refusal, or the frames that are needed and that may be had
+abbrev pub fault_written : Fault → BpfHostRefused → BpfHostRefused
+fault_written (Unaccepted refusal) old = record old { slot = refusal.slot }
+fault_written (NoFrames need have) old = record old { need = need; have = have }
+fault_written fault old = old
+
+-- what a refusal says beside its number
 abbrev pub refused_written : Answer → BpfHostRefused → BpfHostRefused
-refused_written (Replied (Refused (Unaccepted refusal))) old = record old { slot = refusal.slot }
-refused_written (Replied (Refused (NoFrames need have))) old = record old { need = need; have = have }
+refused_written (Replied (Refused fault)) old = fault_written fault old
 refused_written answer old = old
 
 -- the value that was read, where there is just room for it

@@ -3,3 +3,4 @@ pub mod Codes
 pub mod Answered
 pub mod Life
 pub mod Shapes
+pub mod Texts

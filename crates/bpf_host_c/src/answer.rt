@@ -1,6 +1,5 @@
 use crate::structs::{BpfHostCounters, BpfHostRefused, BpfHostRun};
 use host_core::Reply;
-use host_types::Fault;
 
 /// What a call comes to.
 #[derive(Drop)]
@@ -89,13 +88,8 @@ impl Answer {
     pub(crate) fn write_refused(&self, refused: &mut BpfHostRefused)
         ensures { refused.new ≡ refused_written self.now refused.old }
     {
-        match self {
-            Answer::Replied(Reply::Refused(Fault::Program(program))) => refused.slot = program.slot,
-            Answer::Replied(Reply::Refused(Fault::NoFrames { need, have })) => {
-                refused.need = *need;
-                refused.have = *have;
-            }
-            _ => {}
+        if let Answer::Replied(Reply::Refused(fault)) = self {
+            refused.write(fault);
         }
     }
 

@@ -1,5 +1,7 @@
 //! The structs that C fills or reads.
 
+use host_types::Fault;
+
 /// The options of a new host.
 #[repr(C)]
 #[derive(Clone, Copy)]
@@ -17,6 +19,25 @@ pub struct BpfHostRefused {
     pub slot: u32,
     pub need: u32,
     pub have: u32,
+}
+
+impl BpfHostRefused {
+    ghost use Rattle.std.specs.Prelude.{◌≡◌};
+    ghost use Rattle.bpf_host_c.specs.Codes.{fault_written};
+
+    /// Writes what a refusal says beside its number.
+    pub(crate) fn write(&mut self, fault: &Fault)
+        ensures { self.new ≡ fault_written fault.now self.old }
+    {
+        match fault {
+            Fault::Program(refused) => self.slot = refused.slot,
+            Fault::NoFrames { need, have } => {
+                self.need = *need;
+                self.have = *have;
+            }
+            _ => {}
+        }
+    }
 }
 
 /// The shape of a map: the bytes of a value, and how many values there are.

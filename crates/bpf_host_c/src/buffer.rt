@@ -1,0 +1,17 @@
+//! Results that have no fixed length.
+ghost use Rattle.std.specs.Prelude.{◌≡◌, length};
+ghost use Rattle.bpf_host_c.specs.Texts.{put_into, put_code};
+
+/// Writes bytes to the beginning of a buffer, if it is long enough, and how many they are: the number that the call returns.
+pub(crate) fn put(bytes: &[u8], buffer: &mut [u8], written: &mut usize) -> u32
+    ensures buffer { buffer.new ≡ put_into bytes.now buffer.old }
+    ensures written { written.new ≡ length bytes.now }
+    ensures code { result ≡ put_code bytes.now buffer.old }
+{
+    *written = bytes.len();
+    if bytes.len() > buffer.len() {
+        return 102;
+    }
+    buffer[..bytes.len()].copy_from_slice(bytes);
+    0
+}
