@@ -30,7 +30,8 @@
  *   - No two pointers of one call lead to the same bytes, but for those that are `const`.
  *   - The members of a `struct bpf_host` are the library's: they are neither read nor written, and once a handle was opened, a copy of it
  *     isn't used beside it.
- *   - One call at a time is made with a handle, and all of them on the thread that opened it. Other threads may have hosts of their own.
+ *   - One call at a time is made with a handle. Another thread may go on with it after a lock, the start or the join of a thread, or an atomic
+ *     word with sequential consistency, by which the calls of one thread come before those of the other.
  *   - No call is made from a signal handler, or from the child of a process that had several threads when it forked.
  *   - malloc, realloc and free are the C library's, or others that align as it does, up to 16.
  * A host is closed by bpf_host_free; one that isn't keeps its memory. */

@@ -77,11 +77,16 @@ impl From<ffi::Counters> for Counters {
     }
 }
 
-/// A host: its tenants, their maps and programs, and the scanner that merges equal pages. It stays on the thread that made it.
+/// A host: its tenants, their maps and programs, and the scanner that merges equal pages. It may move to another thread, and be used by one at a
+/// time.
 pub struct Host {
-    // The calls take the handle one at a time: a `Host` is neither `Send` nor `Sync`, and no call goes back to Rust.
+    // The calls take the handle one at a time: a `Host` isn't `Sync`, and no call goes back to Rust.
     handle: UnsafeCell<ffi::Handle>,
 }
+
+// SAFETY: the library proves of its handle that it may go to another thread (`handles_cross` of crates/bpf_host_c), and a `Host` moves only while
+// nothing borrows it.
+unsafe impl Send for Host {}
 
 impl Host {
     /// A host of 1 to 16 tenants without maps, whose maps have 2 to 4096 frames of 4096 bytes in all.

@@ -39,13 +39,27 @@
 //! map.update(0, &[0; 8]).unwrap();
 //! ```
 //!
-//! and a host stays on its thread:
+//! A host may move to another thread:
+//!
+//! ```
+//! use bpf_host::{Host, Options};
+//!
+//! let host = Host::new(2, 1, Options::default())?;
+//! let counters = std::thread::spawn(move || host.counters()).join().unwrap()?;
+//! assert_eq!(counters.frames_free, 2);
+//! # Ok::<(), bpf_host::Refused>(())
+//! ```
+//!
+//! but is not used by two of them:
 //!
 //! ```compile_fail
 //! use bpf_host::{Host, Options};
 //!
 //! let host = Host::new(2, 1, Options::default()).unwrap();
-//! std::thread::spawn(move || host.counters());
+//! std::thread::scope(|threads| {
+//!     threads.spawn(|| host.counters());
+//!     host.counters()
+//! });
 //! ```
 
 mod ffi;

@@ -6,6 +6,7 @@ use crate::owner::Owner;
 use host_core::{Bytes, Event, Host};
 use host_types::MapNo;
 use std::alloc::Global;
+use std::marker::Send;
 
 /// A host that C holds, or a closed handle: all zeros are one.
 #[repr(C)]
@@ -132,3 +133,11 @@ impl BpfHost {
         }
     }
 }
+
+/// A handle may go to another thread: the proof that `crosses` may be called for it is the law, and the function does nothing.
+pub fn handles_cross() {
+    crosses::<BpfHost>();
+}
+
+/// Nothing, for a type whose values may go to another thread.
+fn crosses<T: Send>() {}

@@ -23,7 +23,7 @@ pub use calls::{
     bpf_host_lookup, bpf_host_set, bpf_host_unload, bpf_host_unmerge, bpf_host_update,
 };
 pub use explaining::bpf_host_explain;
-pub use handle::BpfHost;
+pub use handle::{BpfHost, handles_cross};
 pub use life::{bpf_host_free, bpf_host_new, bpf_host_version};
 pub use owner::Owner;
 pub use runs::{bpf_host_run, bpf_host_step};

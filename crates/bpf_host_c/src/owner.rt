@@ -7,7 +7,7 @@ ghost use Rattle.bpf_host_c.specs.Owned.{owned, coded_host};
 use crate::loose::Loose;
 use host_core::Host;
 use std::alloc::Global;
-use std::marker::Model;
+use std::marker::{Model, Send};
 
 /// A pointer to a boxed host, or to nothing: `host` says what the host stands for.
 #[repr(C)]
@@ -39,3 +39,6 @@ impl Owner {
         Loose { at, alloc }
     }
 }
+
+// It is proved in proofs/owner/Owner/TheSendSync.
+unsafe impl Send for Owner {}

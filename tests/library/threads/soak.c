@@ -1,14 +1,16 @@
 /* Sixteen threads, each with a host of its own and that with sixteen tenants: a million runs in all. Each tenant counts its runs in a map, while
- * the scanner of its host merges what is equal; each run's answer and each value is to be the tenant's own count. */
+ * the scanner of its host merges what is equal; each run's answer and each value is to be the tenant's own count. Each host is opened before its
+ * thread starts, and freed once that has ended. */
 #include "../check.h"
 
 #include <pthread.h>
 
 enum { THREADS = 16, TENANTS = 16, RUNS = 62500 };
 
-/* What a thread counted that was wrong. */
+/* A thread, the host that it takes over, and what it counted that was wrong. */
 struct worker {
     pthread_t thread;
+    struct bpf_host host;
     unsigned wrong;
 };
 
@@ -62,29 +64,30 @@ static unsigned value_wrong(struct bpf_host *host, uint32_t tenant, uint64_t cou
 static void *work(void *given)
 {
     struct worker *worker = given;
-    struct bpf_host host = {0};
+    struct bpf_host *host = &worker->host;
     struct bpf_host_counters after;
-    worker->wrong = open_counters(&host);
     for (uint32_t number = 0; number < RUNS; number++) {
-        worker->wrong += run_wrong(&host, number % TENANTS, number / TENANTS + 1);
+        worker->wrong += run_wrong(host, number % TENANTS, number / TENANTS + 1);
         if (number % 64 == 0)
-            worker->wrong += bpf_host_visit(&host, 5, &after) != 0;
+            worker->wrong += bpf_host_visit(host, 5, &after) != 0;
     }
     for (uint32_t tenant = 0; tenant < TENANTS; tenant++)
-        worker->wrong += value_wrong(&host, tenant, RUNS / TENANTS + (tenant < RUNS % TENANTS));
-    bpf_host_free(&host);
+        worker->wrong += value_wrong(host, tenant, RUNS / TENANTS + (tenant < RUNS % TENANTS));
     return NULL;
 }
 
 int main(void)
 {
-    struct worker workers[THREADS];
+    static struct worker workers[THREADS];
     unsigned wrong = 0;
-    for (int i = 0; i < THREADS; i++)
+    for (int i = 0; i < THREADS; i++) {
+        workers[i].wrong = open_counters(&workers[i].host);
         if (pthread_create(&workers[i].thread, NULL, work, &workers[i]) != 0)
             return 2;
+    }
     for (int i = 0; i < THREADS; i++) {
         pthread_join(workers[i].thread, NULL);
+        bpf_host_free(&workers[i].host);
         wrong += workers[i].wrong;
     }
     printf("%d threads, %d runs: %u wrong\n", THREADS, THREADS * RUNS, wrong);
