@@ -1,12 +1,11 @@
 //! The data of a page: one JSON object.
 
-use crate::escape::escaped;
 use crate::page::Page;
 use crate::row::Rows;
+use html_page::{write_comma, write_string};
 use listing::Listing;
-use std::alloc::Global;
+use std::io;
 use std::io::Write;
-use std::{fmt, io};
 
 /// Writes the data of a page.
 pub fn write_data<W: Write>(output: &mut W, page: &Page<'_>) -> io::Result<()> {
@@ -49,31 +48,4 @@ fn write_rows<W: Write>(output: &mut W, listing: &Listing<'_>) -> io::Result<()>
         rows.write_further(output, *refused)?;
     }
     write!(output, "]")
-}
-
-/// Writes what stands between an element and the one before it, if there is one.
-pub fn write_comma<W: Write>(output: &mut W, before: usize) -> io::Result<()> {
-    if before > 0 {
-        write!(output, ",")
-    } else {
-        Ok(())
-    }
-}
-
-/// Writes a JSON string.
-pub fn write_string<W: Write>(alloc: Global, output: &mut W, text: &str) -> io::Result<()> {
-    let text = escaped(alloc, text)?;
-    output.write_all(b"\"")?;
-    output.write_all(text.as_slice())?;
-    output.write_all(b"\"")
-}
-
-/// Writes what a value prints as a JSON string.
-pub fn write_shown<W: Write>(
-    alloc: Global,
-    output: &mut W,
-    value: &impl fmt::Display,
-) -> io::Result<()> {
-    let text = format!(in alloc; "{value}")?;
-    write_string(alloc, output, text.as_str())
 }

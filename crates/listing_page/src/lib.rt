@@ -4,7 +4,6 @@
 
 mod actions;
 mod data;
-mod escape;
 mod model;
 mod page;
 mod policy;

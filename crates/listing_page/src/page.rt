@@ -5,6 +5,7 @@ use crate::data::write_data;
 use crate::model::MODEL;
 use crate::policy::{SCRIPT_HASH, STYLE_HASH};
 use crate::style::STYLE;
+use html_page::{Frame, write_end, write_head};
 use listing::Listing;
 use std::alloc::Global;
 use std::io;
@@ -34,44 +35,23 @@ pub struct Page<'a> {
     pub listing: Option<&'a Listing<'a>>,
 }
 
-const HEAD: &str = r##"<!DOCTYPE html>
-<html lang="en">
-<head>
-<meta charset="utf-8">
-"##;
-
-const REST_OF_HEAD: &str = r##"<meta name="viewport" content="width=device-width, initial-scale=1">
-<meta name="referrer" content="no-referrer">
-<title>explain</title>
-"##;
-
-const BODY: &str = r##"</head>
-<body>
-<noscript>This page makes its rows by a script of its own. Let it run, or print the listing without --html.</noscript>
+const BODY: &str =
+    r##"<noscript>This page makes its rows by a script of its own. Let it run, or print the listing without --html.</noscript>
 <main id="page"></main>
 <script type="application/json" id="data">"##;
 
-const END: &str = r##"</body>
-</html>
-"##;
-
 /// Writes a page.
 pub fn write_page<W: Write>(output: &mut W, page: &Page<'_>) -> io::Result<()> {
-    output.write_all(HEAD.as_bytes())?;
-    write_policy(output)?;
-    output.write_all(REST_OF_HEAD.as_bytes())?;
-    write!(output, "<style>{STYLE}</style>\n")?;
+    let frame = Frame {
+        title: "explain",
+        style: STYLE,
+        script: [MODEL, ACTIONS],
+        style_hash: STYLE_HASH,
+        script_hash: SCRIPT_HASH,
+    };
+    write_head(output, &frame)?;
     output.write_all(BODY.as_bytes())?;
     write_data(output, page)?;
-    write!(output, "</script>\n<script>{MODEL}{ACTIONS}</script>\n")?;
-    output.write_all(END.as_bytes())
-}
-
-/// Writes the policy: nothing is loaded or sent, and nothing runs but the script of the page.
-fn write_policy<W: Write>(output: &mut W) -> io::Result<()> {
-    write!(
-        output,
-        "<meta http-equiv=\"Content-Security-Policy\" content=\"default-src 'none'; script-src 'sha256-{SCRIPT_HASH}'; \
-        style-src 'sha256-{STYLE_HASH}'; base-uri 'none'; form-action 'none'\">\n"
-    )
+    write!(output, "</script>\n")?;
+    write_end(output, &frame)
 }

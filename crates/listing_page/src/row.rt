@@ -1,11 +1,11 @@
 //! The rows of a page.
 
-use crate::data::{write_comma, write_shown, write_string};
 use advice::advice_on_text;
 use bpf_decode::Insn;
 use disassembly::AssemblyAt;
 use findings::{write_findings, write_limits};
 use host_types::Refused;
+use html_page::{write_comma, write_shown, write_string};
 use listing::{Detail, Differing, Fact, Item, Listing, Location, Row, STACK_SLOTS};
 use std::alloc::{AllocError, Global};
 use std::io;

@@ -1,6 +1,6 @@
 use Rattle.std.proofs.Common.{All}
-use Rattle.listing_page.specs.Inert.{IsInert}
-use Rattle.listing_page.proofs.escape.escaped.Given as goal
+use Rattle.html_page.specs.Inert.{IsInert}
+use Rattle.html_page.proofs.escape.escaped.Given as goal
 
 abbrev pub invariant-loop-c : goal.invariant-loop-c
 invariant-loop-c l = All IsInert l.escaped.items

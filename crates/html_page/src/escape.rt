@@ -1,9 +1,19 @@
 //! Text from outside, written so that a browser reads none of it as HTML.
 
 ghost use Rattle.std.specs.Prelude.{◌<◌, IfOk, IfSome, OnOk, All, IsTrue};
-ghost use Rattle.listing_page.specs.Inert.{IsInert};
+ghost use Rattle.html_page.specs.Inert.{AppendsInert, IsInert};
 
 use std::alloc::{AllocError, Global};
+use std::io;
+use std::io::Write;
+
+/// Writes a text as `escaped` makes it: between tags, or between the quotes of a JSON string, a browser reads it as text.
+pub fn write_inert<W: Write>(alloc: Global, output: &mut W, text: &str) -> io::Result<()>
+    ensures { OnOk result (AppendsInert (W.contents output.old) (W.contents output.new)) }
+{
+    let text = escaped(alloc, text)?;
+    output.write_all(text.as_slice())
+}
 
 /// A text as it stands between the quotes of a JSON string: characters of ASCII that print, but for `"`, `&`, `<`, `>` and
 /// `\`, as they are, and of every other one the `\uXXXX` of its units of UTF-16.
