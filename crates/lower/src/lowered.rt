@@ -8,16 +8,46 @@ use hex::encode;
 use host_file::FileFault;
 use lowered_text::{Copies, lowered, write_stop};
 use lowering::{Lowered, Stop};
-use program_source::{hex_of, words_fault};
+use program_source::{Answers, hex_of, words_fault};
 use std::alloc::{AllocError, Global};
 use std::io::Write;
 use std::rt::Files;
 
-/// Does what words ask for: lowers the program that they name. The lowered text goes to the output, as hex; a refusal, and
-/// what stopped the lowering, to `errors`. Answers the status: 0, or 1 for a refusal.
-pub fn answer<R, W, E>(
+/// The program.
+pub struct Lower;
+
+impl Answers for Lower {
+    fn name() -> &'static str {
+        "lower"
+    }
+
+    /// Lowers the program that words name. The lowered text goes to the output, as hex; a refusal, and what stopped the
+    /// lowering, to `errors`. The status is 1 for a refusal.
+    fn answer<R, W, E>(
+        rt: &R,
+        words: &[String],
+        output: &mut W,
+        errors: &mut E,
+    ) -> Result<u8, FileFault>
+    where
+        R: AllocGlobal + Files,
+        W: Write,
+        E: Write,
+    {
+        match lowered_of(rt.alloc(), words).map_err(words_fault)? {
+            Asked::Program(asked) => lower(rt, &asked, output, errors),
+            Asked::Text(text) => {
+                written(writeln!(output, "{}", text.as_str().trim_end()))?;
+                Ok(0)
+            }
+        }
+    }
+}
+
+/// Lowers a program.
+fn lower<R, W, E>(
     rt: &R,
-    words: &[String],
+    asked: &ToLower<'_>,
     output: &mut W,
     errors: &mut E,
 ) -> Result<u8, FileFault>
@@ -27,13 +57,6 @@ where
     E: Write,
 {
     let alloc = rt.alloc();
-    let asked = match lowered_of(alloc, words).map_err(words_fault)? {
-        Asked::Program(asked) => asked,
-        Asked::Text(text) => {
-            written(writeln!(output, "{}", text.as_str().trim_end()))?;
-            return Ok(0);
-        }
-    };
     let hex = hex_of(rt, asked.hex)?;
     let shapes = asked.shapes.as_slice();
     let request = check_request_of(alloc, hex.as_str(), shapes, asked.context)?;
@@ -54,12 +77,12 @@ where
             if stopped.stop == Stop::OutOfMemory {
                 return Err(FileFault::OutOfMemory(AllocError));
             }
-            refuse(alloc, &asked, hex.as_str(), errors)?;
+            refuse(alloc, asked, hex.as_str(), errors)?;
             written(write_stop(text, &stopped, errors))?;
             Ok(1)
         }
         None => {
-            refuse(alloc, &asked, hex.as_str(), errors)?;
+            refuse(alloc, asked, hex.as_str(), errors)?;
             Ok(1)
         }
     }

@@ -6,84 +6,19 @@
 mod lowered;
 mod stats;
 
-use engines::{status_of, words_from, write_fault, written};
-use host_file::FileFault;
-use lowered::answer;
-use program_source::words_of;
-use std::alloc::AllocError;
-use std::io::{self, BufWriter, Input, Write};
+use engines::{status_of, write_fault};
+use lowered::Lower;
+use program_source::run;
+use std::io;
 use std::process::ExitCode;
-use std::rt::{Env, Files};
 
 fn main(rt: HostRuntime) -> ExitCode {
     let stderr = rt.stderr();
     let mut errors = io::writer(&stderr);
-    let outcome = run(&rt, &mut errors);
+    let outcome = run::<Lower, _, _>(&rt, &mut errors);
     if let Err(fault) = &outcome {
         // The status says it too: the words may be lost.
         let _ = write_fault(rt.alloc(), &mut errors, fault);
     }
     ExitCode::from(status_of(&outcome))
-}
-
-/// Does what the command line asks for. Answers the status 0 or 1, or the fault of status 2.
-fn run<R, E>(rt: &R, errors: &mut E) -> Result<u8, FileFault>
-where
-    R: AllocGlobal + Env + Files + Input + Print,
-    E: Write,
-{
-    let words = words_from(rt)?;
-    let output = BufWriter::new(rt.alloc(), io::writer(rt));
-    let mut output = output.map_err(|_| FileFault::OutOfMemory(AllocError))?;
-    let status = if words.len() < 2 {
-        answer_lines(rt, &mut output)
-    } else {
-        answer(rt, words.as_slice(), &mut output, errors)
-    }?;
-    written(output.flush())?;
-    Ok(status)
-}
-
-/// Answers each line of the standard input, below the line itself. The status is that of the last.
-fn answer_lines<R, W>(rt: &R, output: &mut W) -> Result<u8, FileFault>
-where
-    R: AllocGlobal + Files + Input,
-    W: Write,
-{
-    let mut status = 0;
-    for line in rt.lines(rt.alloc()) {
-        let line = line.map_err(FileFault::Read)?;
-        if line.as_str().starts_with('#') {
-            // A title asks for nothing.
-            written(writeln!(output, "{line}"))?;
-        } else {
-            status = answer_line(rt, line.as_str(), output)?;
-        }
-    }
-    Ok(status)
-}
-
-/// Answers a line: what goes to the standard output, then each line that goes to standard error, after `! `, and then
-/// the status.
-fn answer_line<R, W>(rt: &R, line: &str, output: &mut W) -> Result<u8, FileFault>
-where
-    R: AllocGlobal + Files,
-    W: Write,
-{
-    let alloc = rt.alloc();
-    written(writeln!(output, "$ {line}"))?;
-    let words = words_of(alloc, "lower", line)?;
-    let mut said = Vec::new(alloc);
-    let outcome = answer(rt, words.as_slice(), output, &mut said);
-    if let Err(fault) = &outcome {
-        written(write_fault(alloc, &mut said, fault))?;
-    }
-    if let Ok(said) = str::from_utf8(said.as_slice()) {
-        for line in said.lines().filter(|line| !line.is_empty()) {
-            written(writeln!(output, "! {line}"))?;
-        }
-    }
-    let status = status_of(&outcome);
-    written(writeln!(output, "status {status}"))?;
-    Ok(status)
 }
