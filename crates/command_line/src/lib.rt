@@ -1,13 +1,15 @@
-//! The words of the command lines of `bpf_host` (docs/HOST.md), of `explain` (docs/EXPLAIN.md) and of `lower`
-//! (docs/LOWER.md): what they ask for.
+//! The words of the command lines of `bpf_host` (docs/HOST.md), of `explain` (docs/EXPLAIN.md), of `lower` (docs/LOWER.md) and
+//! of `merging` (docs/MERGING.md): what they ask for.
 #![tactic(auto)]
 
 mod explain;
 mod lower;
+mod merging;
 
 use clap::{Arg, ArgAction, ArgMatches, Command, Error};
 pub use explain::{ToExplain, explained_of};
 pub use lower::{ToLower, lowered_of};
+pub use merging::{ToDraw, drawn_of};
 use std::alloc::{AllocError, Global};
 use terminal_text::quoted;
 
@@ -34,7 +36,7 @@ pub enum Request<'a> {
     },
 }
 
-/// What the words of `explain` or `lower` ask for.
+/// What the words of `explain`, `lower` or `merging` ask for.
 #[derive(Debug, Drop)]
 pub enum Asked<T> {
     /// To do what the program is for.
@@ -43,7 +45,7 @@ pub enum Asked<T> {
     Text(String),
 }
 
-/// The version of `explain` and `lower`.
+/// The version of `explain`, `lower` and `merging`.
 const VERSION: &str = "0.1.0";
 
 /// Why words ask for nothing.

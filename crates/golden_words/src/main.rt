@@ -1,9 +1,9 @@
 //! Reads command lines from the standard input, whose words bars set apart, and prints what each asks for, or
-//! what is said of words that ask for nothing, after `! `, and a text that is asked for, after `= `. Words after `explain` and `lower` are those programs', and others
-//! `bpf_host`'s. The file `stdout` of this crate says what is wanted.
+//! what is said of words that ask for nothing, after `! `, and a text that is asked for, after `= `. Words after `explain`, `lower`
+//! and `merging` are those programs', and others `bpf_host`'s. The file `stdout` of this crate says what is wanted.
 #![tactic(auto)]
 
-use command_line::{Asked, WrongWords, explained_of, lowered_of, request_of};
+use command_line::{Asked, WrongWords, drawn_of, explained_of, lowered_of, request_of};
 use std::alloc::{AllocError, Global};
 use std::fmt::Debug;
 use std::io;
@@ -17,6 +17,9 @@ const EXPLAIN: &str = "/home/someone/projects/bpf_host/crates/explain/out/explai
 
 /// That of `lower`.
 const LOWER: &str = "/home/someone/projects/bpf_host/crates/lower/out/lower";
+
+/// That of `merging`.
+const MERGING: &str = "/home/someone/projects/bpf_host/crates/merging/out/merging";
 
 /// The words of a line, after the path of a program.
 fn words_of(alloc: Global, path: &str, line: &str) -> Result<Vec<String>, AllocError> {
@@ -39,11 +42,15 @@ fn print_asked(rt: &(impl AllocGlobal + Print), line: &str) -> io::Result<()> {
         let words = words_of(rt.alloc(), LOWER, words.trim_start())?;
         return print_asked_of(rt, lowered_of(rt.alloc(), words.as_slice()));
     }
+    if let Some(words) = line.strip_prefix("merging") {
+        let words = words_of(rt.alloc(), MERGING, words.trim_start())?;
+        return print_asked_of(rt, drawn_of(rt.alloc(), words.as_slice()));
+    }
     let words = words_of(rt.alloc(), BPF_HOST, line)?;
     print_answer(rt, request_of(rt.alloc(), words.as_slice()))
 }
 
-/// Prints what words of `explain` or `lower` ask for, a text as what is said on standard output.
+/// Prints what words of another program ask for, a text as what is said on standard output.
 fn print_asked_of<T: Debug + Drop>(
     rt: &impl Print,
     answer: Result<Asked<T>, WrongWords>,
