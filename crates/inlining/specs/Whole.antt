@@ -1,5 +1,7 @@
 -- Texts that call no functions.
-use Rattle.std.specs.Prelude.{◌≡◌, ◌≢◌, ℕ, ◌+◌, ◌*◌, ◌/◌, ◌%◌, ◌<◌, ◌≤◌, ◌⊎◌, List, length, slice_index}
+use Rattle.std.specs.Prelude.{◌≡◌, ◌≢◌, ℕ, ◌+◌, ◌*◌, ◌/◌, ◌%◌, ◌<◌, ◌≤◌, ◌⊎◌, List, [], ◌∷◌, length, slice_index}
+use Rattle.inlining.specs.declared.whole.Inlined.{Inlined}
+use Rattle.inlining.specs.declared.order.Function.{Function}
 
 -- a slot that isn't a call (0x85) with source 1
 abbrev pub CallsNoFunction : List ℕ → ℕ → Type 0
@@ -10,3 +12,13 @@ pub record IsWholeText (text : List ℕ) : Type 0 where
   pub slots : length text % 8 ≡ 0
   pub short : length text ≤ 32768
   pub no_calls : (slot : ℕ) → slot < length text / 8 → CallsNoFunction text slot
+
+-- such a text, and an origin of each of its slots
+pub record IsInlined (inlined : Inlined) : Type 0 where
+  pub whole : IsWholeText inlined.text.items
+  pub origins : length inlined.origins.items ≡ length inlined.text.items / 8
+
+-- the text of the first function
+pub first_text : List Function → List ℕ
+first_text [] = []
+first_text (first ∷ others) = first.text.now

@@ -1,29 +1,31 @@
 //! A copy of a function's text where it is called: its stack lies below that of the caller, and it ends where the copy ends.
 
-use crate::expansion::{Begins, offset_to, push};
+use crate::expansion::{Begins, offset_to};
 use crate::instruction::{FRAME_POINTER, Insn};
 use crate::stop::{NotInlined, Stop};
+use crate::whole::{Inlined, Origin};
 use std::alloc::Global;
 
 /// A copy of a text without calls of functions, whose stack lies so many bytes lower. Its exits lead to its end.
-pub(crate) fn copied(alloc: Global, text: &[u8], shift: i16) -> Result<Vec<u8>, NotInlined> {
+pub(crate) fn copied(alloc: Global, called: &Inlined, shift: i16) -> Result<Inlined, NotInlined> {
+    let text = called.text.as_slice();
     let begins = begins_of(alloc, text)?;
-    let mut copy: Vec<u8> = Vec::new(alloc);
+    let mut copy = Inlined::new(alloc);
     let mut is_second = false;
-    for slot in 0..text.len() / 8 {
+    for (slot, origin) in called.origins.iter().enumerate() {
         let Some(insn) = Insn::at(text, slot) else {
             continue;
         };
         if is_second {
             is_second = false;
-            push(&mut copy, &insn)?;
+            copy.push(&insn, *origin)?;
             continue;
         }
         is_second = insn.is_wide();
         if insn.is_exit() {
-            push_exit(&begins, slot, &mut copy)?;
+            push_exit(&begins, slot, *origin, &mut copy)?;
         } else {
-            push_lower(&begins, insn, slot, shift, &mut copy)?;
+            push_lower(&begins, insn, slot, shift, *origin, &mut copy)?;
         }
     }
     Ok(copy)
@@ -61,13 +63,18 @@ fn slots_of(insn: &Insn, is_last: bool) -> usize {
 }
 
 /// Appends what stands for an exit: a jump to the end of the copy, where more follows.
-fn push_exit(begins: &Begins, slot: usize, copy: &mut Vec<u8>) -> Result<(), NotInlined> {
-    let at = copy.len() / 8;
+fn push_exit(
+    begins: &Begins,
+    slot: usize,
+    origin: Origin,
+    copy: &mut Inlined,
+) -> Result<(), NotInlined> {
+    let at = copy.slots();
     if at == begins.end() {
         return Ok(());
     }
     match offset_to(at, begins.end()) {
-        Some(offset) => Ok(push(copy, &Insn::jump(offset))?),
+        Some(offset) => copy.push(&Insn::jump(offset), origin),
         None => Err(Stop::TooLong.at(slot)),
     }
 }
@@ -78,23 +85,20 @@ fn push_lower(
     insn: Insn,
     slot: usize,
     shift: i16,
-    copy: &mut Vec<u8>,
+    origin: Origin,
+    copy: &mut Inlined,
 ) -> Result<(), NotInlined> {
-    let at = copy.len() / 8;
     if insn.copies_frame_pointer() {
-        push(copy, &insn)?;
-        push(
-            copy,
-            &Insn::addition(insn.dst, i32::from(shift).saturating_neg()),
-        )?;
-        return Ok(());
+        copy.push(&insn, origin)?;
+        let lower = Insn::addition(insn.dst, i32::from(shift).saturating_neg());
+        return copy.push(&lower, origin);
     }
     if insn.base() != Some(FRAME_POINTER) {
-        push(copy, &begins.moved(insn, slot, at)?)?;
-        return Ok(());
+        let at = copy.slots();
+        return copy.push(&begins.moved(insn, slot, at)?, origin);
     }
     match insn.offset.checked_sub(shift) {
-        Some(offset) => Ok(push(copy, &Insn { offset, ..insn })?),
+        Some(offset) => copy.push(&Insn { offset, ..insn }, origin),
         None => Err(Stop::StackSize.at(slot)),
     }
 }

@@ -2,7 +2,7 @@
 
 use crate::instruction::Insn;
 use crate::stop::{NotInlined, Stop};
-use std::alloc::{AllocError, Global};
+use std::alloc::Global;
 
 /// The most slots of a text.
 pub(crate) const MOST_SLOTS: usize = 4096;
@@ -70,10 +70,4 @@ impl Begins {
 pub(crate) fn offset_to(at: usize, target: usize) -> Option<i16> {
     let at = i64::try_from(at).ok()?.checked_add(1)?;
     i16::try_from(i64::try_from(target).ok()?.checked_sub(at)?).ok()
-}
-
-/// Appends a slot to a text.
-pub(crate) fn push(text: &mut Vec<u8>, insn: &Insn) -> Result<(), AllocError> {
-    text.extend_from_slice(&insn.bytes())?;
-    Ok(())
 }

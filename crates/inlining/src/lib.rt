@@ -9,6 +9,8 @@ mod instruction;
 mod liveness;
 mod order;
 mod stop;
+mod whole;
 
 pub use order::{Call, Function, inlined};
 pub use stop::{NotInlined, Stop};
+pub use whole::{Inlined, Origin};

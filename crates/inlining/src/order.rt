@@ -1,14 +1,15 @@
 //! Functions in the order in which copies of them are made: each after those that it calls.
 
-ghost use Rattle.std.specs.Prelude.{IfOk, IsTrue};
-ghost use Rattle.inlining.specs.Whole.{IsWholeText};
+ghost use Rattle.std.specs.Prelude.{◌≡◌, IfOk};
+ghost use Rattle.inlining.specs.Whole.{IsInlined, IsWholeText, first_text};
 
 use crate::copying::copied;
-use crate::expansion::{Begins, MOST_SLOTS, push};
+use crate::expansion::{Begins, MOST_SLOTS};
 use crate::frame::{STACK, frame_of};
-use crate::instruction::{CALL, Insn, bit};
+use crate::instruction::{Insn, bit};
 use crate::liveness::{KEPT_REGISTERS, live, live_after, written};
 use crate::stop::{NotInlined, Stop};
+use crate::whole::{Inlined, Origin, is_whole};
 use std::alloc::Global;
 
 /// A function: its text, and which function each of its calls calls.
@@ -28,13 +29,35 @@ pub struct Call {
 /// A text without calls of functions, if it is made, with how much stack it uses.
 #[derive(Drop)]
 struct Made {
-    text: Vec<u8>,
+    whole: Inlined,
     frame: i16,
 }
 
+/// One text of function 0 and of those that it calls. It is that of function 0 itself where that calls none.
+pub fn inlined(alloc: Global, functions: &[Function<'_>]) -> Result<Inlined, NotInlined>
+    ensures whole { IfOk result IsInlined }
+    ensures unchanged { IfOk result (λ inlined. IsWholeText (first_text functions.now) → inlined.text.items ≡ first_text functions.now) }
+{
+    let text = text_of_first(functions);
+    if is_whole(text) {
+        return Inlined::unchanged(alloc, text);
+    }
+    with_calls(alloc, functions)
+}
+
+/// The text of function 0, or none if there is none.
+fn text_of_first<'a>(functions: &[Function<'a>]) -> &'a [u8]
+    ensures { result.now ≡ first_text functions.now }
+{
+    match functions.first() {
+        Some(first) => first.text,
+        None => &[],
+    }
+}
+
 /// One text of function 0 and of those that it calls.
-pub fn inlined(alloc: Global, functions: &[Function<'_>]) -> Result<Vec<u8>, NotInlined>
-    ensures { IfOk result (λ text. IsWholeText text.items) }
+fn with_calls(alloc: Global, functions: &[Function<'_>]) -> Result<Inlined, NotInlined>
+    ensures { IfOk result IsInlined }
 {
     let mut made: Vec<Option<Made>> = Vec::new(alloc);
     for _function in functions {
@@ -44,25 +67,10 @@ pub fn inlined(alloc: Global, functions: &[Function<'_>]) -> Result<Vec<u8>, Not
         make_more(alloc, functions, &mut made)?;
     }
     match made.into_iter().next() {
-        Some(Some(first)) if is_whole(first.text.as_slice()) => Ok(first.text),
+        Some(Some(first)) if first.whole.is_whole() => Ok(first.whole),
         Some(Some(_)) => Err(Stop::UnknownCall.at(0)),
         _ => Err(Stop::Recursion.at(0)),
     }
-}
-
-/// Whether a text has whole slots, at most 4096 of them, and no call of a function.
-fn is_whole(text: &[u8]) -> bool
-    ensures { IsTrue result → IsWholeText text.now }
-{
-    if text.len() % 8 != 0 || text.len() > 8 * MOST_SLOTS {
-        return false;
-    }
-    for slot in 0..text.len() / 8 {
-        if text[8 * slot] == CALL && text[8 * slot + 1] / 16 == 1 {
-            return false;
-        }
-    }
-    true
 }
 
 /// Makes each text whose calls are of functions whose texts are made.
@@ -81,7 +89,7 @@ fn make_more(
         {
             continue;
         }
-        match with_copies(alloc, function, made.as_slice()) {
+        match with_copies(alloc, number, function, made.as_slice()) {
             Ok(text) => {
                 if let Some(slot) = made.get_mut(number) {
                     *slot = Some(text);
@@ -108,14 +116,14 @@ fn make_more(
 #[derive(Drop)]
 struct Copied {
     saved: u16,
-    copy: Vec<u8>,
+    copy: Inlined,
     end: i16,
 }
 
 impl Copied {
     /// The slots that stand for the call.
     fn slots(&self) -> usize {
-        let mut slots = self.copy.len() / 8;
+        let mut slots = self.copy.slots();
         for register in KEPT_REGISTERS {
             if self.saved & bit(register) != 0 {
                 slots = slots.saturating_add(2);
@@ -125,9 +133,10 @@ impl Copied {
     }
 }
 
-/// The text of a function with a copy of the called text at each call.
+/// The text of a function, by its number, with a copy of the called text at each call.
 fn with_copies(
     alloc: Global,
+    number: usize,
     function: &Function<'_>,
     made: &[Option<Made>],
 ) -> Result<Made, NotInlined> {
@@ -141,22 +150,26 @@ fn with_copies(
             None => 1,
         })?;
     }
-    let mut whole: Vec<u8> = Vec::new(alloc);
+    let mut whole = Inlined::new(alloc);
     let mut is_second = false;
     for (slot, copy) in copies.iter().enumerate() {
         let Some(insn) = Insn::at(text, slot) else {
             continue;
         };
-        let at = whole.len() / 8;
+        let origin = Origin {
+            function: number,
+            slot,
+        };
+        let at = whole.slots();
         match copy {
-            Some(copied) => push_copy(copied, frame, &mut whole)?,
-            None if is_second => push(&mut whole, &insn)?,
-            None => push(&mut whole, &begins.moved(insn, slot, at)?)?,
+            Some(copied) => push_copy(copied, frame, origin, &mut whole)?,
+            None if is_second => whole.push(&insn, origin)?,
+            None => whole.push(&begins.moved(insn, slot, at)?, origin)?,
         }
         is_second = insn.is_wide() && !is_second;
     }
     let frame = deepest(frame, copies.as_slice());
-    Ok(Made { text: whole, frame })
+    Ok(Made { whole, frame })
 }
 
 /// How much stack is used by a function, its own or that of a copy.
@@ -193,14 +206,14 @@ fn copies_of(
         let Some(called) = called_at(function, slot, made) else {
             return Err(Stop::UnknownCall.at(slot));
         };
-        let saved = live_after(&insn, slot, live.as_slice()) & written(called.text.as_slice());
+        let saved = live_after(&insn, slot, live.as_slice()) & written(called.whole.text.as_slice());
         let shift = frame.saturating_add(size_of(saved));
         let end = shift.saturating_add(called.frame);
         if end > STACK {
             return Err(Stop::StackSize.at(slot));
         }
-        let copy = copied(alloc, called.text.as_slice(), shift)?;
-        slots = slots.saturating_add(copy.len() / 8);
+        let copy = copied(alloc, &called.whole, shift)?;
+        slots = slots.saturating_add(copy.slots());
         if slots > MOST_SLOTS {
             return Err(Stop::TooLong.at(slot));
         }
@@ -222,21 +235,26 @@ fn called_at<'a>(
     }
 }
 
-/// Appends a copy between stores of the registers that it saves, below the frame, and loads of them.
-fn push_copy(copied: &Copied, frame: i16, whole: &mut Vec<u8>) -> Result<(), NotInlined> {
+/// Appends a copy between stores of the registers that it saves, below the frame, and loads of them. These stand for the call.
+fn push_copy(
+    copied: &Copied,
+    frame: i16,
+    call: Origin,
+    whole: &mut Inlined,
+) -> Result<(), NotInlined> {
     let mut offset = frame.saturating_neg();
     for register in KEPT_REGISTERS {
         if copied.saved & bit(register) != 0 {
             offset = offset.saturating_sub(8);
-            push(whole, &Insn::save(register, offset))?;
+            whole.push(&Insn::save(register, offset), call)?;
         }
     }
-    whole.extend_from_slice(copied.copy.as_slice())?;
+    whole.append(&copied.copy)?;
     let mut offset = frame.saturating_neg();
     for register in KEPT_REGISTERS {
         if copied.saved & bit(register) != 0 {
             offset = offset.saturating_sub(8);
-            push(whole, &Insn::restore(register, offset))?;
+            whole.push(&Insn::restore(register, offset), call)?;
         }
     }
     Ok(())
