@@ -160,6 +160,12 @@ impl<'a> Btf<'a> {
     }
 }
 
+/// The names of a section .BTF.
+pub(crate) fn names_of(bytes: &[u8]) -> Option<&[u8]> {
+    let (_, names) = parts_of(bytes)?;
+    Some(names)
+}
+
 /// The types and the names of a section.
 fn parts_of(bytes: &[u8]) -> Option<(&[u8], &[u8])> {
     let header = u32_at(bytes, 4)? as usize;

@@ -86,6 +86,8 @@ pub enum Cause {
     NoBtf,
     #[error("BTF that cannot be read")]
     BadBtf,
+    #[error("more than 65536 records of lines")]
+    TooManyLines,
     #[error("BTF of kind {0}, which is unknown")]
     UnknownBtfKind(u32),
     #[error("the map `{0}` has no symbol in its section")]

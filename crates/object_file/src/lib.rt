@@ -10,6 +10,7 @@ mod field;
 mod function;
 mod instruction;
 mod legacy;
+mod lines;
 mod map;
 mod object;
 mod program;
@@ -17,6 +18,7 @@ mod relocation;
 mod text;
 
 pub use error::{Cause, Location, ObjectError};
+pub use lines::{SourceLine, TextLines, lines_of};
 pub use map::Map;
 pub use program::{Program, program_of};
 pub use text::{Call, Text};

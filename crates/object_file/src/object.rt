@@ -14,6 +14,9 @@ pub(crate) const MOST_BYTES: usize = 1 << 24;
 /// The most bytes of a name, with the zero that ends it.
 const MOST_OF_NAME: usize = 256;
 
+/// The most bytes of a text among names.
+const MOST_OF_FRONT: usize = 1024;
+
 /// The bytes of a section header, of a symbol and of a relocation.
 const SECTION_HEADER: usize = 64;
 
@@ -303,4 +306,17 @@ pub(crate) fn name_at(names: &[u8], at: usize) -> Option<&[u8]>
         }
     }
     None
+}
+
+/// The text at an offset of names: bytes up to a zero, or the first 1024 of them.
+pub(crate) fn front_at(names: &[u8], at: usize) -> Option<&[u8]>
+    ensures { IfSome result (λ front. IsPartOfFile names.now at front.now) }
+{
+    for size in 0..MOST_OF_FRONT {
+        let end = at.checked_add(size)?;
+        if *names.get(end)? == 0 {
+            return part_at(names, at, size);
+        }
+    }
+    part_at(names, at, MOST_OF_FRONT)
 }
