@@ -1,11 +1,11 @@
 //! The answer to a request.
 
-use crate::asked::{Form, asked_of};
+use crate::asked::{Asked, Form, asked_of};
 use crate::events::{hex_of, write_events, write_shapes};
 use crate::fault::{Fault, written};
 use crate::file::bytes_at;
-use inlining::{Function, NotInlined, inlined};
-use object_file::{Program, program_of};
+use lowered_text::ProgramWords;
+use object_text::{ObjectText, text_of};
 use std::alloc::Global;
 use std::io::Write;
 use std::rt::Files;
@@ -20,55 +20,53 @@ where
     let alloc = rt.alloc();
     let asked = asked_of(alloc, words)?;
     let bytes = bytes_at(rt, asked.path)?;
-    let program = match program_of(alloc, bytes.as_slice(), asked.section) {
-        Ok(program) => program,
+    let object = match text_of(alloc, bytes.as_slice(), asked.section) {
+        Ok(object) => object,
         Err(error) => return Err(Fault::Refused(quoted(alloc, asked.path)?, error)),
     };
-    let text = match whole_of(alloc, &program) {
-        Ok(text) => text,
-        Err(error) => {
-            let begin = program
-                .texts
-                .get(error.function)
-                .map_or(0, |text| text.begin);
-            let at = error.slot.saturating_mul(8).saturating_add(begin);
-            return Err(Fault::NotInlined(quoted(alloc, asked.path)?, at, error));
-        }
-    };
     match asked.form {
-        Form::Events => written(write_events(
-            alloc,
-            &program,
-            text.as_slice(),
-            asked.tenant,
-            asked.context,
-            output,
-        )),
+        Form::Events => {
+            let hex = hex_text(alloc, &asked, &object)?;
+            written(write_events(
+                alloc,
+                &object,
+                hex.as_str(),
+                asked.tenant,
+                asked.context,
+                output,
+            ))
+        }
         Form::Hex => {
-            let hex = hex_of(alloc, text.as_slice())?;
+            let hex = hex_text(alloc, &asked, &object)?;
             written(writeln!(output, "{hex}"))
         }
-        Form::Maps => written(write_shapes(&program, output)),
+        Form::Maps => written(write_shapes(&object, output)),
     }
 }
 
-/// The text of a program, with copies of the functions that it calls.
-fn whole_of(alloc: Global, program: &Program) -> Result<Vec<u8>, NotInlined> {
-    let mut all = Vec::new(alloc);
-    for text in &program.texts {
-        let mut calls = Vec::new(alloc);
-        for call in &text.calls {
-            let (slot, function) = (call.slot, call.function);
-            calls.push(inlining::Call { slot, function })?;
+/// The hex text of an object's program, lowered if that is asked for.
+fn hex_text(alloc: Global, asked: &Asked<'_>, object: &ObjectText) -> Result<String, Fault> {
+    let hex = hex_of(alloc, object.text.as_slice())?;
+    if !asked.lower {
+        return Ok(hex);
+    }
+    let shapes = object.shape_words(alloc)?;
+    let mut words = Vec::new(alloc);
+    for shape in &shapes {
+        words.push(shape.as_str())?;
+    }
+    let context = format!(in alloc; "{}", asked.context)?;
+    let program = ProgramWords {
+        hex: hex.as_str(),
+        shapes: words.as_slice(),
+        context: context.as_str(),
+    };
+    let mut said = Vec::new(alloc);
+    match program.lower(alloc, &mut said)? {
+        Some(program) => Ok(hex_of(alloc, program.lowered.text.as_slice())?),
+        None => {
+            let said = str::from_utf8(said.as_slice()).unwrap_or("").trim_end();
+            Err(Fault::NotLowered(String::from_str(alloc, said)?))
         }
-        all.push(calls)?;
     }
-    let mut functions = Vec::new(alloc);
-    for (text, calls) in program.texts.iter().zip(all.iter()) {
-        functions.push(Function {
-            text: text.bytes.as_slice(),
-            calls: calls.as_slice(),
-        })?;
-    }
-    inlined(alloc, functions.as_slice())
 }

@@ -15,6 +15,8 @@ pub struct Asked<'a> {
     pub section: Option<&'a str>,
     pub tenant: u32,
     pub context: u32,
+    /// Whether the text is to be lowered first.
+    pub lower: bool,
     pub form: Form,
 }
 
@@ -51,6 +53,7 @@ pub fn asked_of<'a>(alloc: Global, words: &'a [String]) -> Result<Asked<'a>, Fau
         section: matches.get_str("section"),
         tenant: number_of(alloc, &matches, "tenant")?,
         context: number_of(alloc, &matches, "context")?,
+        lower: matches.get_flag("lower"),
         form,
     })
 }
@@ -103,6 +106,11 @@ fn command<'a>(alloc: Global) -> Result<Command<'a>, AllocError> {
             "context",
             "N",
             "the bytes of the context, 0 if it isn't given",
+        ))?
+        .arg(flag(
+            alloc,
+            "lower",
+            "lowers the text first, for its maps and the context",
         ))?
         .arg(flag(alloc, "hex", "prints the text alone, as hex"))?
         .arg(flag(

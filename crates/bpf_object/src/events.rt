@@ -1,28 +1,28 @@
 //! Events of a host file (docs/HOST.md).
 
 use hex::encode;
-use object_file::{Map, Program};
+use object_file::Map;
+use object_text::ObjectText;
 use std::alloc::{AllocError, Global};
 use std::io::{self, Write};
 
 /// Writes the events that make the maps of a program, give them their first bytes and load the program.
 pub fn write_events<W: Write>(
     alloc: Global,
-    program: &Program,
-    text: &[u8],
+    object: &ObjectText,
+    hex: &str,
     tenant: u32,
     context: u32,
     output: &mut W,
 ) -> io::Result<()> {
-    for map in &program.maps {
+    for map in &object.maps {
         write_map(map, tenant, output)?;
     }
-    for (number, map) in program.maps.iter().enumerate() {
+    for (number, map) in object.maps.iter().enumerate() {
         if !map.first.is_empty() {
             write_update(alloc, number, map, tenant, output)?;
         }
     }
-    let hex = hex_of(alloc, text)?;
     writeln!(
         output,
         "[[event]]\ndo = \"load\"\ntenant = {tenant}\nhex = \"{hex}\"\ncontext = {context}\n"
@@ -54,8 +54,8 @@ fn write_update<W: Write>(
 }
 
 /// Writes the name and the shape of each map.
-pub fn write_shapes<W: Write>(program: &Program, output: &mut W) -> io::Result<()> {
-    for map in &program.maps {
+pub fn write_shapes<W: Write>(object: &ObjectText, output: &mut W) -> io::Result<()> {
+    for map in &object.maps {
         let (name, value_size, entries) = (&map.name, map.shape.value_size, map.shape.entries);
         writeln!(output, "{name} {value_size}:{entries}")?;
     }

@@ -1,7 +1,7 @@
 //! Why the program ended with another status than 0.
 
-use inlining::NotInlined;
-use object_file::ObjectError;
+use host_file::FileFault;
+use object_text::NotTaken;
 use std::alloc::{AllocError, AllocFailed};
 use std::io::{self, Write};
 use thiserror::Error;
@@ -11,12 +11,14 @@ use thiserror::Error;
 pub enum Fault {
     /// The object file isn't taken: status 1.
     #[error("{0}: {1}")]
-    Refused(String, ObjectError),
-    /// The functions that it calls can't be copied into one text: status 1. The number counts bytes of the file.
-    #[error("{0}: byte {1} of the file: {2}")]
-    NotInlined(String, usize, NotInlined),
+    Refused(String, NotTaken),
+    /// Its text isn't lowered, for which `lower` has these words: status 1.
+    #[error("{0}")]
+    NotLowered(String),
     #[error("out of memory")]
     OutOfMemory(AllocError),
+    #[error("{0}")]
+    Lowering(FileFault),
     #[error("cannot read the standard input: {0}")]
     Read(io::Error),
     #[error("cannot write the output: {0}")]
@@ -32,6 +34,17 @@ impl From<AllocError> for Fault {
     }
 }
 
+/// A lowering that could not be tried.
+impl From<FileFault> for Fault {
+    fn from(fault: FileFault) -> Self {
+        match fault {
+            FileFault::OutOfMemory(error) => Fault::OutOfMemory(error),
+            FileFault::Write(error) => Fault::Write(error),
+            other => Fault::Lowering(other),
+        }
+    }
+}
+
 /// Lets go of what found no room.
 impl<T: Drop> From<AllocFailed<T>> for Fault {
     fn from(failed: AllocFailed<T>) -> Self {
@@ -43,7 +56,7 @@ impl<T: Drop> From<AllocFailed<T>> for Fault {
 pub fn status_of(outcome: &Result<(), Fault>) -> u8 {
     match outcome {
         Ok(()) => 0,
-        Err(Fault::Refused(..) | Fault::NotInlined(..)) => 1,
+        Err(Fault::Refused(..) | Fault::NotLowered(_)) => 1,
         Err(_) => 2,
     }
 }

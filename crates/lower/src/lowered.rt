@@ -2,14 +2,13 @@
 
 use crate::stats::write_stats;
 use command_line::{Asked, ToLower, lowered_of};
-use engines::check::{check, check_request_of};
 use engines::written;
 use hex::encode;
 use host_file::FileFault;
-use lowered_text::{Copies, lowered, write_stop};
-use lowering::{Lowered, Stop};
+use lowered_text::{Copies, ProgramWords};
+use lowering::Lowered;
 use program_source::{Answers, hex_of, words_fault};
-use std::alloc::{AllocError, Global};
+use std::alloc::Global;
 use std::io::Write;
 use std::rt::Files;
 
@@ -58,59 +57,27 @@ where
 {
     let alloc = rt.alloc();
     let hex = hex_of(rt, asked.hex)?;
-    let shapes = asked.shapes.as_slice();
-    let request = check_request_of(alloc, hex.as_str(), shapes, asked.context)?;
-    let text = request.text.as_slice();
-    match lowered(alloc, &request) {
-        Some(Ok(lowered)) => {
-            write_text(alloc, &lowered, output)?;
-            if asked.stats {
-                let copies = Copies {
-                    text,
-                    lowered: &lowered,
-                };
-                written(write_stats(alloc, &copies, errors))?;
-            }
-            Ok(0)
-        }
-        Some(Err(stopped)) => {
-            if stopped.stop == Stop::OutOfMemory {
-                return Err(FileFault::OutOfMemory(AllocError));
-            }
-            refuse(alloc, asked, hex.as_str(), errors)?;
-            written(write_stop(text, &stopped, errors))?;
-            Ok(1)
-        }
-        None => {
-            refuse(alloc, asked, hex.as_str(), errors)?;
-            Ok(1)
-        }
+    let words = ProgramWords {
+        hex: hex.as_str(),
+        shapes: asked.shapes.as_slice(),
+        context: asked.context,
+    };
+    let Some(program) = words.lower(alloc, errors)? else {
+        return Ok(1);
+    };
+    write_text(alloc, &program.lowered, output)?;
+    if asked.stats {
+        let copies = Copies {
+            text: program.request.text.as_slice(),
+            lowered: &program.lowered,
+        };
+        written(write_stats(alloc, &copies, errors))?;
     }
+    Ok(0)
 }
 
 /// Writes a lowered text.
 fn write_text<W: Write>(alloc: Global, lowered: &Lowered, output: &mut W) -> Result<(), FileFault> {
     let hex = encode(alloc, lowered.text.as_slice())?;
     written(writeln!(output, "{hex}"))
-}
-
-/// Writes the line of `check` for a program that is refused, and what the refusal means.
-fn refuse<E: Write>(
-    alloc: Global,
-    asked: &ToLower<'_>,
-    hex: &str,
-    errors: &mut E,
-) -> Result<(), FileFault> {
-    let mut line = Vec::new(alloc);
-    let mut meant = Vec::new(alloc);
-    check(
-        alloc,
-        hex,
-        asked.shapes.as_slice(),
-        asked.context,
-        &mut line,
-        &mut meant,
-    )?;
-    written(errors.write_all(line.as_slice()))?;
-    written(errors.write_all(meant.as_slice()))
 }

@@ -1,0 +1,113 @@
+//! The text of a program from an object file: one of its function and of those that it calls, its maps, and the line of a source of
+//! which each slot was made.
+#![tactic(auto)]
+
+ghost use Rattle.std.specs.Prelude.{IfOk};
+ghost use Rattle.inlining.specs.Whole.{IsWholeText};
+ghost use Rattle.object_file.specs.Maps.{AreShapedMaps};
+
+mod not_taken;
+
+use inlining::{Function, Inlined, NotInlined, inlined};
+pub use not_taken::NotTaken;
+use object_file::{Map, SourceLine, Text, TextLines, lines_of, program_of};
+use std::alloc::{AllocError, Global};
+
+/// The text of a program, without calls of functions, and its maps.
+#[derive(Drop)]
+pub struct ObjectText {
+    pub text: Vec<u8>,
+    pub maps: Vec<Map>,
+}
+
+/// The text of an object's program, and of each slot the line of a source of which it was made, where that is known.
+#[derive(Drop)]
+pub struct ObjectLines<'a> {
+    pub object: ObjectText,
+    pub lines: Vec<Option<SourceLine<'a>>>,
+}
+
+impl ObjectText {
+    /// The shape of each map, as a word V:E.
+    pub fn shape_words(&self, alloc: Global) -> Result<Vec<String>, AllocError> {
+        let mut words = Vec::new(alloc);
+        for map in &self.maps {
+            let (value_size, entries) = (map.shape.value_size, map.shape.entries);
+            words.push(format!(in alloc; "{value_size}:{entries}")?)?;
+        }
+        Ok(words)
+    }
+}
+
+/// The text of the program of an object file: of the function that a name chooses, its own or its section's, where there are
+/// several.
+pub fn text_of(alloc: Global, bytes: &[u8], name: Option<&str>) -> Result<ObjectText, NotTaken>
+    ensures text { IfOk result (λ object. IsWholeText object.text.items) }
+    ensures maps { IfOk result (λ object. AreShapedMaps object.maps.items) }
+{
+    let program = program_of(alloc, bytes, name)?;
+    let whole = whole_of(alloc, program.texts.as_slice())?;
+    Ok(ObjectText {
+        text: whole.text,
+        maps: program.maps,
+    })
+}
+
+/// The text of the program of an object file, as `text_of` answers it, with lines of sources.
+pub fn text_with_lines<'a>(
+    alloc: Global,
+    bytes: &'a [u8],
+    name: Option<&str>,
+) -> Result<ObjectLines<'a>, NotTaken> {
+    let program = program_of(alloc, bytes, name)?;
+    let whole = whole_of(alloc, program.texts.as_slice())?;
+    let of_texts = lines_of(alloc, bytes, program.texts.as_slice())?;
+    let mut lines = Vec::new(alloc);
+    for origin in &whole.origins {
+        lines.push(line_at(of_texts.as_slice(), origin.function, origin.slot))?;
+    }
+    let object = ObjectText {
+        text: whole.text,
+        maps: program.maps,
+    };
+    Ok(ObjectLines { object, lines })
+}
+
+/// The line of a slot of a function.
+fn line_at<'a>(lines: &[TextLines<'a>], function: usize, slot: usize) -> Option<SourceLine<'a>> {
+    let line = lines.get(function)?.slots.get(slot)?;
+    *line
+}
+
+/// One text of a function and of those that it calls, the first of these.
+fn whole_of(alloc: Global, texts: &[Text]) -> Result<Inlined, NotTaken>
+    ensures { IfOk result (λ whole. IsWholeText whole.text.items) }
+{
+    let mut all = Vec::new(alloc);
+    for text in texts {
+        let mut calls = Vec::new(alloc);
+        for call in &text.calls {
+            let (slot, function) = (call.slot, call.function);
+            calls.push(inlining::Call { slot, function })?;
+        }
+        all.push(calls)?;
+    }
+    let mut functions = Vec::new(alloc);
+    for (text, calls) in texts.iter().zip(all.iter()) {
+        functions.push(Function {
+            text: text.bytes.as_slice(),
+            calls: calls.as_slice(),
+        })?;
+    }
+    match inlined(alloc, functions.as_slice()) {
+        Ok(whole) => Ok(whole),
+        Err(error) => Err(not_inlined(texts, error)),
+    }
+}
+
+/// A refusal of the inlining, at its byte of the file.
+fn not_inlined(texts: &[Text], error: NotInlined) -> NotTaken {
+    let begin = texts.get(error.function).map_or(0, |text| text.begin);
+    let at = error.slot.saturating_mul(8).saturating_add(begin);
+    NotTaken::Inlining(at, error)
+}
