@@ -19,8 +19,9 @@
  *     101         the handle is open already (bpf_host_new)
  *     102         the buffer has another length than the value (bpf_host_lookup) or is too short (bpf_host_lower, bpf_host_explain), or the contexts
  *                 can't have one size (bpf_host_run_many)
- * bpf_host_load and _update copy what they are given first: where there is no memory for that, they return 41 whatever else but 100 would be
- * refused. bpf_host_begin and _run take memory only where the context is longer than those of the tenant's runs before.
+ * 41 comes only where nothing else is refused, but that bpf_host_load returns it before 11 to 25 where there is no memory to verify the text, and
+ * bpf_host_lookup before 102. bpf_host_update takes no memory, and bpf_host_begin and _run only where the context is longer than those of the
+ * tenant's runs before.
  * A call that doesn't return 0 changed nothing: neither the host nor what the caller's pointers lead to, but for the members of
  * `*refused` that the number speaks of (slot; need and have), and `*written` where a buffer is too short.
  *
@@ -166,7 +167,7 @@ uint32_t bpf_host_step(struct bpf_host *host, uint32_t tenant, uint64_t steps, b
 /* Copies a value of a map to just as many bytes. 100, 42, 34, 35, 41, 102. */
 uint32_t bpf_host_lookup(struct bpf_host *host, uint32_t tenant, uint32_t map, uint32_t key, uint8_t *value, size_t value_len);
 
-/* Writes a value of a map. 100, 42, 36, 34, 35, 33, 31, 41. */
+/* Writes a value of a map. 100, 42, 36, 34, 35, 33, 31. */
 uint32_t bpf_host_update(struct bpf_host *host, uint32_t tenant, uint32_t map, uint32_t key, const uint8_t *value, size_t value_len,
                          struct bpf_host_refused *refused);
 
@@ -197,7 +198,8 @@ uint32_t bpf_host_lower(const uint8_t *text, size_t text_len, const struct bpf_h
                         uint8_t *lowered, size_t lowered_len, size_t *written, struct bpf_host_refused *refused);
 
 /* Writes what the program `explain` prints of a text, accepted or refused, without colours (docs/EXPLAIN.md): UTF-8 with no zero at its end, and
- * how many bytes that is to `*written`. 102 where `explained_len` is less: then `explained` stays as it was. 41. */
+ * how many bytes that is to `*written`. 102 where `explained_len` is less: then `explained` stays as it was. Without memory 41, or the words say
+ * so or are fewer. */
 uint32_t bpf_host_explain(const uint8_t *text, size_t text_len, const struct bpf_host_shape *shapes, size_t shapes_len, uint32_t context_size,
                           char *explained, size_t explained_len, size_t *written);
 

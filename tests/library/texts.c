@@ -58,7 +58,8 @@ static void check_buffer(const uint8_t *buffer, size_t size, const uint8_t *want
 }
 
 /* Lowers a text into a buffer of a length, which is to give this code and leave these bytes. */
-static void check_lowered(const uint8_t *text, size_t text_len, size_t lowered_len, uint32_t code, const uint8_t *wanted, size_t wanted_len, size_t need)
+static void check_lowered(const uint8_t *text, size_t text_len, size_t lowered_len, uint32_t code, const uint8_t *wanted, size_t wanted_len,
+                          size_t need)
 {
     uint8_t buffer[512];
     size_t written = 12345;

@@ -8,8 +8,8 @@ use Rattle.host_core.specs.World.{System}
 use Rattle.host_core.specs.Happens.{StepsHappen}
 use Rattle.host_core.specs.HostView.{HostView}
 use Rattle.bpf_host_c.specs.declared.answer.Answer.{Answer}
-use Rattle.bpf_host_c.specs.declared.answer.Answer.TheVariants.{Closed, NoMemory, Replied}
-use Rattle.bpf_host_c.specs.Answered.{HasAnswer, HasAnswerFromCopy, IsUnasked, Goes, Serves, RunsWhole}
+use Rattle.bpf_host_c.specs.declared.answer.Answer.TheVariants.{Replied}
+use Rattle.bpf_host_c.specs.Answered.{HasAnswer, Goes, Serves, RunsWhole}
 use Rattle.bpf_host_c.specs.Codes.{is_begun}
 
 module _ (Happening : Reply → System → System → Type 0) where
@@ -20,30 +20,6 @@ module _ (Happening : Reply → System → System → Type 0) where
       subst (λ (before : Option HostView). HasAnswer Happening (Replied reply) before n) (sym is_had)
       (subst (λ (after : Option HostView). HasAnswer Happening (Replied reply) (Some had) after) (sym is_new)
       (subst (λ (host : HostView). Goes (Happening reply) host new) is_old goes))
-
-  -- a call that could copy what it was given is answered as one that copies nothing
-  pub from_copy : (answer : Answer) (o n : Option HostView) → HasAnswer Happening answer o n → HasAnswerFromCopy Happening answer o n
-  from_copy Closed None None so = so
-  from_copy Closed None (Some new) so = absurd so
-  from_copy Closed (Some old) None so = absurd so
-  from_copy Closed (Some old) (Some new) so = absurd so
-  from_copy NoMemory None None so = absurd so
-  from_copy NoMemory None (Some new) so = absurd so
-  from_copy NoMemory (Some old) None so = absurd so
-  from_copy NoMemory (Some old) (Some new) so = absurd so
-  from_copy (Replied reply) None None so = absurd so
-  from_copy (Replied reply) None (Some new) so = absurd so
-  from_copy (Replied reply) (Some old) None so = absurd so
-  from_copy (Replied reply) (Some old) (Some new) so = so
-
-  -- one that could not leaves the handle as it was
-  pub kept_from_copy : (answer : Answer) (o : Option HostView) → IsUnasked answer o → HasAnswerFromCopy Happening answer o o
-  kept_from_copy Closed None so = tt
-  kept_from_copy Closed (Some host) so = absurd so
-  kept_from_copy NoMemory None so = absurd so
-  kept_from_copy NoMemory (Some host) so = refl
-  kept_from_copy (Replied reply) None so = absurd so
-  kept_from_copy (Replied reply) (Some host) so = absurd so
 
 pub begun_is : (reply : Reply) → is_begun reply ≡ true → reply ≡ Begun
 begun_is Begun so = refl

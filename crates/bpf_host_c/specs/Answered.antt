@@ -4,7 +4,7 @@ use Rattle.host_core.specs.declared.reply.Reply.{Reply}
 use Rattle.host_core.specs.World.{System}
 use Rattle.host_core.specs.HostView.{HostView, StandsForSystem}
 use Rattle.bpf_host_c.specs.declared.answer.Answer.{Answer}
-use Rattle.bpf_host_c.specs.declared.answer.Answer.TheVariants.{Closed, NoMemory, Replied}
+use Rattle.bpf_host_c.specs.declared.answer.Answer.TheVariants.{Closed, Replied}
 pub use Rattle.library_calls.specs.Calls.{Serves, RunsWhole, Steps, Visits, VisitsAndCounts}
 
 -- A host went from one view to another: in each system that it stood for this happens, and it stands for the one afterwards.
@@ -17,17 +17,6 @@ abbrev pub HasAnswer : (Reply → System → System → Type 0) → Answer → O
 HasAnswer Happening Closed None None = Unit {0}
 HasAnswer Happening (Replied reply) (Some old) (Some new) = Goes (Happening reply) old new
 HasAnswer Happening answer old new = ⊥
-
--- The same of a call that copies what it is given: where there is no memory for that, nothing happens of an open handle.
-abbrev pub HasAnswerFromCopy : (Reply → System → System → Type 0) → Answer → Option HostView → Option HostView → Type 0
-HasAnswerFromCopy Happening NoMemory (Some old) (Some new) = new ≡ old
-HasAnswerFromCopy Happening answer old new = HasAnswer Happening answer old new
-
--- Of such a call, where the answer is known before the host is asked: nothing happens.
-abbrev pub IsUnasked : Answer → Option HostView → Type 0
-IsUnasked Closed None = Unit {0}
-IsUnasked NoMemory (Some host) = Unit {0}
-IsUnasked answer host = ⊥
 
 -- there is no option of the number that a call names: nothing happens
 abbrev pub IsNoOption : ℕ → Option HostView → Option HostView → Type 0

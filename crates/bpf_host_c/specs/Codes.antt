@@ -8,7 +8,7 @@ use Rattle.host_types.specs.declared.options.Opt.TheVariants.{PagesToScan, Run, 
 use Rattle.host_core.specs.declared.reply.Reply.{Reply}
 use Rattle.host_core.specs.declared.reply.Reply.TheVariants.{Map, Program, Begun, Stepped, Ended, Value, Counters as AreCounters, Refused}
 use Rattle.bpf_host_c.specs.declared.answer.Answer.{Answer}
-use Rattle.bpf_host_c.specs.declared.answer.Answer.TheVariants.{Closed, NoMemory, Replied}
+use Rattle.bpf_host_c.specs.declared.answer.Answer.TheVariants.{Closed, Replied}
 use Rattle.bpf_host_c.specs.declared.structs.BpfHostCounters.{BpfHostCounters}
 use Rattle.bpf_host_c.specs.declared.structs.BpfHostRefused.{BpfHostRefused}
 use Rattle.bpf_host_c.specs.declared.structs.BpfHostRun.{BpfHostRun}
@@ -16,7 +16,6 @@ use Rattle.bpf_host_c.specs.declared.structs.BpfHostRun.{BpfHostRun}
 -- the number that a call returns
 abbrev pub call_code : Answer → ℕ
 call_code Closed = 100
-call_code NoMemory = 41
 call_code (Replied (Refused fault)) = fault_number fault
 call_code (Replied reply) = 0
 

@@ -19,7 +19,8 @@ use Rattle.bpf_host_c.specs.Codes.{fault_written}
 
 -- the shape of a map that two numbers give: none where both are 0
 abbrev pub shape_given : BpfHostShape → Option Shape
-shape_given given = if given.value_size == 0 && given.entries == 0 then None else Some (record { value_size = given.value_size; entries = given.entries })
+shape_given given =
+    if given.value_size == 0 && given.entries == 0 then None else Some (record { value_size = given.value_size; entries = given.entries })
 
 -- the shape of the map with a number
 abbrev pub shape_numbered : List BpfHostShape → ℕ → Option Shape

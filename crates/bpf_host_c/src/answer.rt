@@ -6,8 +6,6 @@ use host_core::Reply;
 pub enum Answer {
     /// Nothing happened: the handle is closed.
     Closed,
-    /// Nothing happened: there is no memory for a copy of what the call was given.
-    NoMemory,
     /// The host replied.
     Replied(Reply),
 }
@@ -22,7 +20,6 @@ impl Answer {
     {
         match self {
             Answer::Closed => 100,
-            Answer::NoMemory => 41,
             Answer::Replied(Reply::Refused(fault)) => fault.number(),
             Answer::Replied(_) => 0,
         }

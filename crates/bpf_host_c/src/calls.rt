@@ -1,7 +1,7 @@
 ghost use Rattle.std.specs.Prelude.{◌≡◌, MatchOption};
 ghost use Rattle.host_types.specs.declared.event.Event.TheVariants.{CreateMap, Load, Begin, HostUpdate, HostLookup, Unload, DropMap, Set, Unmerge, Counters};
 ghost use Rattle.bpf_host_c.specs.declared.answer.Answer.{Answer as CallAnswer};
-ghost use Rattle.bpf_host_c.specs.Answered.{HasAnswer, HasAnswerFromCopy, IsNoOption, Serves};
+ghost use Rattle.bpf_host_c.specs.Answered.{HasAnswer, IsNoOption, Serves};
 ghost use Rattle.bpf_host_c.specs.Codes.{call_code, lookup_code, new_map_number, new_program_number, value_copied, counters_written, refused_written, option_of};
 
 use crate::handle::BpfHost;
@@ -66,7 +66,7 @@ pub extern "C" fn bpf_host_load(
     refused: &mut BpfHostRefused,
 ) -> u32
     ensures { (answer : CallAnswer)
-        × HasAnswerFromCopy (Serves (Load tenant text.now context_size)) answer handle.old.owner.host handle.new.owner.host
+        × HasAnswer (Serves (Load tenant text.now context_size)) answer handle.old.owner.host handle.new.owner.host
         × (result ≡ call_code answer) × (program.new ≡ new_program_number answer program.old) × (refused.new ≡ refused_written answer refused.old) }
 {
     let answer = handle.load(alloc, tenant, text, context_size);
@@ -122,7 +122,7 @@ pub extern "C" fn bpf_host_update(
     refused: &mut BpfHostRefused,
 ) -> u32
     ensures { (answer : CallAnswer)
-        × HasAnswerFromCopy (Serves (HostUpdate tenant map key value.now)) answer handle.old.owner.host handle.new.owner.host
+        × HasAnswer (Serves (HostUpdate tenant map key value.now)) answer handle.old.owner.host handle.new.owner.host
         × (result ≡ call_code answer) × (refused.new ≡ refused_written answer refused.old) }
 {
     let answer = handle.update(alloc, tenant, map, key, value);

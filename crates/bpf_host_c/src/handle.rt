@@ -3,7 +3,7 @@ ghost use Rattle.std.specs.Prelude.{◌≡◌, is_some};
 use crate::answer::Answer;
 use crate::loose::Loose;
 use crate::owner::Owner;
-use host_core::{Bytes, Event, Host};
+use host_core::{Event, Host};
 use host_types::MapNo;
 use std::alloc::Global;
 use std::marker::Send;
@@ -17,9 +17,9 @@ pub struct BpfHost {
 }
 
 impl BpfHost {
-    ghost use Rattle.std.specs.Prelude.{◌≡◌, MatchOption, Some, None, IfOk, IfErr};
+    ghost use Rattle.std.specs.Prelude.{◌≡◌, MatchOption, Some, None};
     ghost use Rattle.host_types.specs.declared.event.Event.TheVariants.{Load, Begin, HostUpdate};
-    ghost use Rattle.bpf_host_c.specs.Answered.{HasAnswer, HasAnswerFromCopy, IsUnasked, Serves};
+    ghost use Rattle.bpf_host_c.specs.Answered.{HasAnswer, Serves};
 
     /// Takes the host out, which leaves the handle closed.
     pub(crate) fn take(&mut self, alloc: Global) -> Option<Box<Host>>
@@ -61,19 +61,14 @@ impl BpfHost {
         text: &[u8],
         context_size: u32,
     ) -> Answer
-        ensures { HasAnswerFromCopy (Serves (Load tenant text.now context_size)) result self.old.owner.host self.new.owner.host }
+        ensures { HasAnswer (Serves (Load tenant text.now context_size)) result self.old.owner.host self.new.owner.host }
     {
-        match self.copied(alloc, text) {
-            Ok(text) => {
-                let event = Event::Load {
-                    tenant,
-                    text,
-                    context_size,
-                };
-                self.serve(alloc, &event)
-            }
-            Err(answer) => answer,
-        }
+        let Some(mut host) = self.take(alloc) else {
+            return Answer::Closed;
+        };
+        let reply = host.load(tenant, text, context_size);
+        self.put(host);
+        Answer::Replied(reply)
     }
 
     /// Opens a run.
@@ -103,34 +98,14 @@ impl BpfHost {
         key: u32,
         value: &[u8],
     ) -> Answer
-        ensures { HasAnswerFromCopy (Serves (HostUpdate tenant map key value.now)) result self.old.owner.host self.new.owner.host }
+        ensures { HasAnswer (Serves (HostUpdate tenant map key value.now)) result self.old.owner.host self.new.owner.host }
     {
-        match self.copied(alloc, value) {
-            Ok(value) => {
-                let event = Event::HostUpdate {
-                    tenant,
-                    map,
-                    key,
-                    value,
-                };
-                self.serve(alloc, &event)
-            }
-            Err(answer) => answer,
-        }
-    }
-
-    /// A copy of what a call was given, where the handle is open and there is memory.
-    pub(crate) fn copied(&self, alloc: Global, given: &[u8]) -> Result<Bytes, Answer>
-        ensures copy { IfOk result (λ copy. copy ≡ given.now) }
-        ensures kept { IfErr result (λ answer. IsUnasked answer self.now.owner.host) }
-    {
-        if !self.is_open {
-            return Err(Answer::Closed);
-        }
-        match given.to_vec(alloc) {
-            Ok(copy) => Ok(copy.into()),
-            Err(_) => Err(Answer::NoMemory),
-        }
+        let Some(mut host) = self.take(alloc) else {
+            return Answer::Closed;
+        };
+        let reply = host.update(tenant, map, key, value);
+        self.put(host);
+        Answer::Replied(reply)
     }
 }
 

@@ -56,6 +56,35 @@ static void wanted(int holds, const char *what)
         wanted(code == 0, "not done: " #call);                          \
     } while (0)
 
+static void calls_on_a_text(const uint8_t *text, size_t len)
+{
+    static const struct bpf_host_shape shapes[1] = {{8, 1}};
+    struct bpf_host_refused refused = {0, 0, 0};
+    uint8_t lowered[16] = {0};
+    size_t written = 0;
+    AGAIN(bpf_host_verify(text, len, shapes, 1, 8, &refused));
+    AGAIN(bpf_host_lower(text, len, shapes, 1, 8, lowered, sizeof lowered, &written, &refused));
+    wanted(written == len && memcmp(lowered, text, len) == 0, "another lowered text");
+}
+
+/* An explanation without one of its allocations: 41, or a listing that says so or leaves words out. Whether that allocation was asked for. */
+static int explain_without(unsigned number)
+{
+    static const uint8_t text[] = {0xbf, 0x12, 0, 0, 0, 0, 0, 0, 0x95, 0, 0, 0, 0, 0, 0, 0};
+    static const struct bpf_host_shape shapes[1] = {{8, 1}};
+    char explained[4096] = {'~'};
+    size_t written = 12345;
+    left_until_refused = number;
+    uint32_t code = bpf_host_explain(text, sizeof text, shapes, 1, 8, explained, sizeof explained, &written);
+    int was_refused = left_until_refused == 0;
+    left_until_refused = 0;
+    if (code == 41)
+        wanted(was_refused && written == 12345 && explained[0] == '~', "41, and something is written");
+    else if (strncmp(explained, "refused 41 OutOfMemory", 22) != 0)
+        wanted(code == 0 && strncmp(explained, "refused 14 UnsetRegister at 1", 29) == 0, "another verdict is explained");
+    return was_refused;
+}
+
 static void list_of_calls(void)
 {
     static const uint8_t text[] = {0xb7, 0, 0, 0, 42, 0, 0, 0, 0x95, 0, 0, 0, 0, 0, 0, 0};
@@ -73,10 +102,13 @@ static void list_of_calls(void)
     wanted(number == 0, "another map");
     AGAIN(bpf_host_load(&host, 0, text, sizeof text, 8, &number, &refused));
     wanted(number == 0, "another program");
-    AGAIN(bpf_host_update(&host, 0, 0, 0, value, sizeof value, &refused));
+    unsigned before = asked;
+    wanted(bpf_host_update(&host, 0, 0, 0, value, sizeof value, &refused) == 0 && asked == before, "an update takes memory");
+    wanted(bpf_host_load(&host, 2, text, sizeof text, 8, &number, &refused) == 42 && asked == before, "no tenant, and memory is taken");
+    wanted(bpf_host_load(&host, 0, text, sizeof text, 7, &number, &refused) == 39 && asked == before, "a bad size, and memory is taken");
     AGAIN(bpf_host_run(&host, 0, 0, value, 8, &run, &refused));
     wanted(run.ret == 42 && run.steps == 2, "another run");
-    unsigned before = asked;
+    before = asked;
     wanted(bpf_host_run(&host, 0, 0, value, 8, &run, &refused) == 0 && asked == before, "a second run takes memory");
     AGAIN(bpf_host_begin(&host, 0, 0, value, 8, &refused));
     AGAIN(bpf_host_step(&host, 0, 9, &ended, &run));
@@ -87,6 +119,7 @@ static void list_of_calls(void)
     AGAIN(bpf_host_unload(&host, 0, 0));
     AGAIN(bpf_host_drop_map(&host, 0, 0));
     bpf_host_free(&host);
+    calls_on_a_text(text, sizeof text);
 }
 
 int main(void)
@@ -98,6 +131,8 @@ int main(void)
         list_of_calls();
     } while (left_until_refused == 0 && refused < 10000);
     wanted(lacked == refused - 1, "an allocation was refused, and no call said so");
+    for (unsigned number = 1; explain_without(number) && number < 10000; number++)
+        refused++;
     printf("%u allocations refused, %u failed\n", refused - 1, failures);
     return failures != 0;
 }
