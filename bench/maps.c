@@ -68,7 +68,11 @@ static const struct work {
     {"one update", NULL, SET, 0, 6, 1},
 };
 
-static struct insn text[SLOTS];
+/* The text, and that for the C switch, whose wide instructions lead to its map. */
+static struct insn text[SLOTS], linked[SLOTS];
+static uint8_t zeros[VALUE_SIZE];
+static const struct map map = {1, VALUE_SIZE, VALUE_SIZE, zeros};
+
 static struct bpf_host host;
 static struct bpf_host_refused refused;
 static uint32_t failed;
@@ -88,7 +92,10 @@ static int make_text(const struct work *work)
     int pc = put(put(0, HEAD, 6), work->before, work->before_slots);
     for (int left = work->count; left > 0; left--)
         pc = put(pc, work->body, work->body_slots);
-    return put(pc, END, 2);
+    int slots = put(pc, END, 2);
+    memcpy(linked, text, sizeof linked);
+    switch_link(linked, (uint32_t)slots, &map);
+    return slots;
 }
 
 /* Opens a host with a map of one value for each of two tenants, of which the first one has the program. */
@@ -125,11 +132,9 @@ static double spent_by_host(uint32_t steps)
 /* The same of a hundred runs on the C switch. */
 static double spent_by_switch(uint32_t *steps)
 {
-    static char zeros[VALUE_SIZE];
-    static struct map map = {1, VALUE_SIZE, zeros};
     double start = now();
     for (int run = 0; run < RUNS; run++)
-        failed |= switch_run(text, &map, steps) != 0;
+        failed |= switch_run(linked, NULL, steps) != 0;
     return (now() - start) / RUNS / *steps;
 }
 
