@@ -1,0 +1,213 @@
+/* Engines that run the programs of corpus.h by turns: the library, the C switch of switch.h, and DPDK's interpreter where it is built in
+ * (dpdk.h). A file that includes this defines _POSIX_C_SOURCE first, as 200809L. */
+#ifndef ENGINES_H
+#define ENGINES_H
+
+#include "bpf_host.h"
+#include "corpus.h"
+#include "dpdk.h"
+
+#include <math.h>
+
+enum { MOST_ROUNDS = 101, PAGE = 4096 };
+
+enum engine { LIBRARY, SWITCH, DPDK, ENGINES };
+
+static const char *const ENGINE_NAMES[ENGINES] = {"library", "switch", "dpdk"};
+
+/* A program that all engines have loaded. DPDK's is NULL where it refuses the program. */
+struct loaded {
+    const struct program *program;
+    struct bpf_host host;
+    struct linked by_switch, by_dpdk;
+    struct rte_bpf *dpdk;
+    double steps;
+    /* Of a run by each engine: the median of its rounds, the least, and the median of each round's time over that of the C switch. */
+    double ns[ENGINES], least[ENGINES], ratio[ENGINES];
+};
+
+static struct bpf_host_refused refused;
+static uint32_t failed;
+
+/* As many frames as the pages of a program's maps need, with as many again that a run may reserve for them. */
+static uint32_t frames_of(const struct program *program)
+{
+    uint32_t pages = 1;
+    for (uint32_t map = 0; map < program->map_count; map++)
+        pages += (program->shapes[map].stride * program->shapes[map].entries + PAGE - 1) / PAGE;
+    return 2 * pages;
+}
+
+/* Opens a host with the program's maps and their first values, and loads it: 0, or what refuses it. */
+static uint32_t load(struct loaded *loaded)
+{
+    const struct program *program = loaded->program;
+    struct bpf_host_options options = BPF_HOST_OPTIONS;
+    uint32_t number, code = bpf_host_new(frames_of(program), 1, &options, &loaded->host);
+    for (uint32_t map = 0; map < program->map_count; map++) {
+        const struct map *shape = &program->shapes[map];
+        code |= bpf_host_create_map(&loaded->host, 0, shape->value_size, shape->entries, true, &number, &refused);
+    }
+    for (uint32_t at = 0; at < program->update_count; at++) {
+        const struct first_value *update = &program->updates[at];
+        uint32_t size = program->shapes[update->map].value_size;
+        code |= bpf_host_update(&loaded->host, 0, update->map, update->key, update->bytes, size, &refused);
+    }
+    failed |= code;
+    size_t size = sizeof *program->text * program->slots;
+    return bpf_host_load(&loaded->host, 0, (const uint8_t *)program->text, size, program->context_size, &number, &refused);
+}
+
+/* Each of these runs a program on a context: what it returns. */
+static inline uint64_t run_by_library(struct loaded *loaded, const uint8_t *context, uint32_t *steps)
+{
+    struct bpf_host_run run = {0, 0};
+    failed |= bpf_host_run(&loaded->host, 0, 0, context, loaded->program->context_size, &run, &refused);
+    *steps = run.steps;
+    return run.ret;
+}
+
+static inline uint64_t run_by_switch(struct loaded *loaded, const uint8_t *context, uint32_t *steps)
+{
+    return switch_run(loaded->by_switch.text, context, steps);
+}
+
+static inline uint64_t run_by_dpdk(struct loaded *loaded, const uint8_t *context)
+{
+    return rte_bpf_exec(loaded->dpdk, (void *)(uintptr_t)context);
+}
+
+/* Goes over the contexts so many times: a number of all that the runs returned. */
+static uint64_t runs(enum engine engine, struct loaded *loaded, int repeats)
+{
+    const uint8_t(*contexts)[LONGEST_CONTEXT] = loaded->program->contexts;
+    uint64_t all = 0;
+    uint32_t steps;
+    for (int run = 0; run < repeats * CONTEXTS; run++)
+        switch (engine) {
+        case LIBRARY: all = all * 31 + run_by_library(loaded, contexts[run % CONTEXTS], &steps); break;
+        case SWITCH: all = all * 31 + run_by_switch(loaded, contexts[run % CONTEXTS], &steps); break;
+        default: all = all * 31 + run_by_dpdk(loaded, contexts[run % CONTEXTS]); break;
+        }
+    return all;
+}
+
+static bool has(const struct loaded *loaded, enum engine engine)
+{
+    return engine != DPDK || loaded->dpdk != NULL;
+}
+
+static void differs(const struct loaded *loaded, const char *what, enum engine engine)
+{
+    printf("%s %s: %s by %s differs from that of the C switch\n", loaded->program->file, loaded->program->name, what, ENGINE_NAMES[engine]);
+    failed = 1;
+}
+
+/* Compares what the engines' maps hold. */
+static void compare_maps(struct loaded *loaded)
+{
+    for (uint32_t map = 0; map < loaded->program->map_count; map++) {
+        const struct map *values = &loaded->by_switch.maps[map];
+        bool differ = false;
+        for (uint32_t key = 0; key < values->entries; key++) {
+            uint8_t value[LONGEST_VALUE];
+            failed |= bpf_host_lookup(&loaded->host, 0, map, key, value, values->value_size);
+            differ |= memcmp(value, values->values + (uint64_t)key * values->stride, values->value_size) != 0;
+        }
+        if (differ)
+            differs(loaded, "a map", LIBRARY);
+        if (loaded->dpdk && memcmp(loaded->by_dpdk.maps[map].values, values->values, (uint64_t)values->stride * values->entries) != 0)
+            differs(loaded, "a map", DPDK);
+    }
+}
+
+/* Runs the program on each context by all engines, and compares answers, numbers of steps and maps. */
+static void compare(struct loaded *loaded)
+{
+    uint64_t all = 0;
+    for (int run = 0; run < CONTEXTS; run++) {
+        const uint8_t *context = loaded->program->contexts[run];
+        uint32_t steps, wanted_steps;
+        uint64_t ret = run_by_switch(loaded, context, &wanted_steps);
+        if (run_by_library(loaded, context, &steps) != ret)
+            differs(loaded, "an answer", LIBRARY);
+        if (steps != wanted_steps)
+            differs(loaded, "the number of steps", LIBRARY);
+        if (loaded->dpdk && run_by_dpdk(loaded, context) != ret)
+            differs(loaded, "an answer", DPDK);
+        all += wanted_steps;
+    }
+    compare_maps(loaded);
+    loaded->steps = (double)all / CONTEXTS;
+}
+
+/* Loads a program by all engines and compares them: 0, or what the verifier answers. */
+static inline uint32_t take(const struct program *program, struct loaded *loaded)
+{
+    *loaded = (struct loaded){.program = program};
+    uint32_t code = load(loaded);
+    if (code != 0) {
+        bpf_host_free(&loaded->host);
+        return code;
+    }
+    link_program(program, &loaded->by_switch);
+    link_program(program, &loaded->by_dpdk);
+    loaded->dpdk = dpdk_load(loaded->by_dpdk.text, program->slots, loaded->by_dpdk.maps, program->map_count, program->context_size);
+    compare(loaded);
+    return 0;
+}
+
+static inline int by_size(const void *a, const void *b)
+{
+    double x = *(const double *)a, y = *(const double *)b;
+    return (x > y) - (x < y);
+}
+
+/* The middle one of some numbers, which are put in order. */
+static inline double median(double *numbers, int count)
+{
+    qsort(numbers, (size_t)count, sizeof *numbers, by_size);
+    return numbers[count / 2];
+}
+
+/* Writes what an engine's rounds come to, beside those of the C switch. */
+static inline void sum_up(struct loaded *loaded, enum engine engine, const double *ns, const double *by_switch, int rounds)
+{
+    double sorted[MOST_ROUNDS], ratios[MOST_ROUNDS];
+    for (int round = 0; round < rounds; round++) {
+        sorted[round] = ns[round];
+        ratios[round] = ns[round] / by_switch[round];
+    }
+    loaded->ns[engine] = median(sorted, rounds);
+    loaded->least[engine] = sorted[0];
+    loaded->ratio[engine] = median(ratios, rounds);
+}
+
+/* Measures a program, in nanoseconds a run. */
+static inline void measure_runs(struct loaded *loaded, int rounds, int repeats)
+{
+    double ns[ENGINES][MOST_ROUNDS];
+    for (int round = 0; round < rounds; round++) {
+        uint64_t answers[ENGINES];
+        for (int engine = 0; engine < ENGINES; engine++) {
+            double start = used();
+            answers[engine] = has(loaded, (enum engine)engine) ? runs((enum engine)engine, loaded, repeats) : answers[LIBRARY];
+            ns[engine][round] = has(loaded, (enum engine)engine) ? (used() - start) / repeats / CONTEXTS : NAN;
+            if (answers[engine] != answers[LIBRARY])
+                differs(loaded, "an answer of a round", (enum engine)engine);
+        }
+    }
+    for (int engine = 0; engine < ENGINES; engine++)
+        sum_up(loaded, (enum engine)engine, ns[engine], ns[SWITCH], rounds);
+}
+
+/* Prints a number of a row, or a dash where there is none. */
+static inline void print_number(double number, int digits)
+{
+    if (isnan(number))
+        printf(" - |");
+    else
+        printf(" %.*f |", digits, number);
+}
+
+#endif
