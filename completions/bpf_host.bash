@@ -1,4 +1,4 @@
-# Completion of bash for bpf_host, explain and lower: source it, or copy it to /usr/share/bash-completion/completions/.
+# Completion of bash for bpf_host, explain, lower and merging: source it, or copy it to /usr/share/bash-completion/completions/.
 
 # Completes the files that begin with the word, after what stands before it, as `@`.
 _bpf_host_files() {
@@ -37,6 +37,15 @@ _bpf_lower() {
     _bpf_text '--stats'
 }
 
+_bpf_merging() {
+    local word=${COMP_WORDS[COMP_CWORD]}
+    case $word in
+        -*) mapfile -t COMPREPLY < <(compgen -W '--svg --help --version' -- "$word") ;;
+        *) _bpf_host_files '' "$word" ;;
+    esac
+}
+
 complete -F _bpf_host bpf_host
 complete -F _bpf_explain explain
 complete -F _bpf_lower lower
+complete -F _bpf_merging merging
