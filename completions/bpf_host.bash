@@ -1,4 +1,5 @@
-# Completion of bash for bpf_host, explain, lower and merging: source it, or copy it to /usr/share/bash-completion/completions/.
+# Completion of bash for bpf_host, bpf_object, explain, lower and merging: source it, or copy it to
+# /usr/share/bash-completion/completions/.
 
 # Completes the files that begin with the word, after what stands before it, as `@`.
 _bpf_host_files() {
@@ -30,7 +31,7 @@ _bpf_text() {
 }
 
 _bpf_explain() {
-    _bpf_text '--all --lower --html'
+    _bpf_text '--section --all --lower --html'
 }
 
 _bpf_lower() {
@@ -45,7 +46,16 @@ _bpf_merging() {
     esac
 }
 
+_bpf_object() {
+    local word=${COMP_WORDS[COMP_CWORD]}
+    case $word in
+        -*) mapfile -t COMPREPLY < <(compgen -W '--section --tenant --context --lower --hex --maps --help' -- "$word") ;;
+        *) _bpf_host_files '' "$word" ;;
+    esac
+}
+
 complete -F _bpf_host bpf_host
+complete -F _bpf_object bpf_object
 complete -F _bpf_explain explain
 complete -F _bpf_lower lower
 complete -F _bpf_merging merging

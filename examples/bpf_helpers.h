@@ -1,12 +1,17 @@
-/* What programs in libbpf's style need: sections, maps, helpers. For another target than BPF the helpers are functions, which who
-   links the program has. */
+/* What programs in libbpf's style need of its header <bpf/bpf_helpers.h>: sections, maps, helpers. For another target than BPF the helpers
+   are functions, which who links the program has. */
 typedef unsigned char u8;
 typedef unsigned short u16;
 typedef unsigned int u32;
 typedef unsigned long long u64;
 typedef int s32;
 
-#ifdef __bpf__
+#if defined(__BPF__) && !defined(__clang__)
+#define SEC(name) __attribute__((section(name), used))
+void *bpf_map_lookup_elem(void *map, const void *key) __attribute__((kernel_helper(1)));
+long bpf_map_update_elem(void *map, const void *key, const void *value, u64 flags) __attribute__((kernel_helper(2)));
+long bpf_map_delete_elem(void *map, const void *key) __attribute__((kernel_helper(3)));
+#elif defined(__bpf__)
 #define SEC(name) __attribute__((section(name), used))
 static void *(*bpf_map_lookup_elem)(void *map, const void *key) = (void *)1;
 static long (*bpf_map_update_elem)(void *map, const void *key, const void *value, u64 flags) = (void *)2;

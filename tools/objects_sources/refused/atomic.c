@@ -1,5 +1,5 @@
 /* refused: an atomic operation */
-#include "../bpf_helpers.h"
+#include "bpf_helpers.h"
 
 u64 count;
 

@@ -1,5 +1,5 @@
 /* refused: CO-RE relocations */
-#include "../bpf_helpers.h"
+#include "bpf_helpers.h"
 
 struct task {
     u32 flags;

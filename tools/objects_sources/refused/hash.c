@@ -1,5 +1,5 @@
 /* refused: the map `pairs` has type 1 */
-#include "../bpf_helpers.h"
+#include "bpf_helpers.h"
 
 struct {
     __uint(type, BPF_MAP_TYPE_HASH);

@@ -1,5 +1,5 @@
 /* refused: the map `rows` has values of 4097 bytes and 1 entries */
-#include "../bpf_helpers.h"
+#include "bpf_helpers.h"
 
 struct {
     __uint(type, BPF_MAP_TYPE_ARRAY);

@@ -1,5 +1,5 @@
 /* refused: global variables of 8192 bytes in one map */
-#include "../bpf_helpers.h"
+#include "bpf_helpers.h"
 
 const volatile u8 table[8192] = { 1 };
 

@@ -1,5 +1,5 @@
 /* refused: the map `rows` has keys of 8 bytes */
-#include "../bpf_helpers.h"
+#include "bpf_helpers.h"
 
 struct {
     __uint(type, BPF_MAP_TYPE_ARRAY);

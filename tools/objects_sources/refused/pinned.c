@@ -1,5 +1,5 @@
 /* refused: the field `pinning` of map `rows` is not taken */
-#include "../bpf_helpers.h"
+#include "bpf_helpers.h"
 
 struct {
     __uint(type, BPF_MAP_TYPE_ARRAY);

@@ -1,5 +1,5 @@
 /* refused: an address stands in a global variable */
-#include "../bpf_helpers.h"
+#include "bpf_helpers.h"
 
 u32 first, second;
 u32 *volatile numbers[2] = { &first, &second };

@@ -1,5 +1,5 @@
 /* refused: a function calls itself, or one that calls it */
-#include "../bpf_helpers.h"
+#include "bpf_helpers.h"
 
 static __noinline u64 sum(u64 number)
 {

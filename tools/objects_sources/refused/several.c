@@ -1,5 +1,5 @@
 /* refused: there are several functions, `first` and `second` among them */
-#include "../bpf_helpers.h"
+#include "bpf_helpers.h"
 
 SEC("xdp")
 int first(const u32 *context)

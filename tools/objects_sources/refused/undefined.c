@@ -1,5 +1,5 @@
 /* refused: `elsewhere` is not defined in this file */
-#include "../bpf_helpers.h"
+#include "bpf_helpers.h"
 
 int elsewhere(u32 number);
 
