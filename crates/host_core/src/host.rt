@@ -195,13 +195,7 @@ impl Host {
         if index >= self.tenants.len() {
             return Reply::Refused(Fault::BadTenant);
         }
-        self.tenants[index].load_text(
-            self.alloc,
-            &mut self.memory,
-            tenant,
-            text,
-            context_size,
-        )
+        self.tenants[index].load_text(self.alloc, &mut self.memory, tenant, text, context_size)
     }
 
     /// Lets a value be written, without the way through all other events.

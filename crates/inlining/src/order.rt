@@ -206,7 +206,8 @@ fn copies_of(
         let Some(called) = called_at(function, slot, made) else {
             return Err(Stop::UnknownCall.at(slot));
         };
-        let saved = live_after(&insn, slot, live.as_slice()) & written(called.whole.text.as_slice());
+        let saved = live_after(&insn, slot, live.as_slice())
+            & written(called.whole.text.as_slice());
         let shift = frame.saturating_add(size_of(saved));
         let end = shift.saturating_add(called.frame);
         if end > STACK {
