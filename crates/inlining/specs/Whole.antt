@@ -1,5 +1,5 @@
 -- Texts that call no functions.
-use Rattle.std.specs.Prelude.{◌≡◌, ◌≢◌, ℕ, ◌+◌, ◌*◌, ◌/◌, ◌%◌, ◌<◌, ◌≤◌, ◌⊎◌, List, [], ◌∷◌, length, slice_index}
+use Rattle.std.specs.Prelude.{◌≡◌, ◌≢◌, ℕ, ◌+◌, ◌*◌, ◌/◌, ◌%◌, ◌<◌, ◌≤◌, ◌⊎◌, List, [], length, slice_index, slice_get, Option, Some, None}
 use Rattle.inlining.specs.declared.whole.Inlined.{Inlined}
 use Rattle.inlining.specs.declared.order.Function.{Function}
 
@@ -18,7 +18,11 @@ pub record IsInlined (inlined : Inlined) : Type 0 where
   pub whole : IsWholeText inlined.text.items
   pub origins : length inlined.origins.items ≡ length inlined.text.items / 8
 
+-- the text of a function, or none where there is none
+abbrev pub text_in : Option Function → List ℕ
+text_in None = []
+text_in (Some function) = function.text.now
+
 -- the text of the first function
-pub first_text : List Function → List ℕ
-first_text [] = []
-first_text (first ∷ others) = first.text.now
+abbrev pub first_text : List Function → List ℕ
+first_text functions = text_in (slice_get functions 0)
