@@ -17,6 +17,8 @@ pub struct ToExplain<'a> {
     pub hex: &'a str,
     pub shapes: Vec<&'a str>,
     pub context: &'a str,
+    /// The section or the function of an object file.
+    pub section: Option<&'a str>,
     /// Whether all that is known is to be shown.
     pub all: bool,
     /// Whether the program is to be lowered first.
@@ -49,6 +51,7 @@ pub fn explained_of<'a>(
         hex,
         shapes: shapes.to_vec(alloc).map_err(WrongWords::OutOfMemory)?,
         context: matches.get_str("context").unwrap_or("0"),
+        section: matches.get_str("section"),
         all: matches.get_flag("all"),
         lower: matches.get_flag("lower"),
         html: matches.get_flag("html"),
@@ -56,6 +59,11 @@ pub fn explained_of<'a>(
 }
 
 fn command<'a>(alloc: Global) -> Result<Command<'a>, AllocError> {
+    let section = Arg::new(alloc, "section")
+        .long("section")
+        .value_name("NAME")
+        .help("the section or the function, where an object file has several")
+        .action(ArgAction::Set);
     let all = Arg::new(alloc, "all")
         .long("all")
         .help("shows all that is known at each slot")
@@ -71,9 +79,13 @@ fn command<'a>(alloc: Global) -> Result<Command<'a>, AllocError> {
     Command::new(alloc, NAME)
         .version(VERSION)
         .about("shows what the verifier knows at each instruction of a program")
-        .arg(hex_or_file(alloc))?
+        .arg(hex_or_file(
+            alloc,
+            "the program, as hex text, or @FILE: its bytes, hex text, or an object file",
+        ))?
         .arg(shapes(alloc))?
         .arg(context(alloc))?
+        .arg(section)?
         .arg(all)?
         .arg(lower)?
         .arg(html)

@@ -175,9 +175,9 @@ fn check<'a>(alloc: Global) -> Result<Command<'a>, AllocError> {
 }
 
 /// The program of a command line that takes files too.
-fn hex_or_file<'a>(alloc: Global) -> Arg<'a> {
+fn hex_or_file<'a>(alloc: Global, help: &'static str) -> Arg<'a> {
     Arg::new(alloc, "HEX")
-        .help("the program, as hex text, or @FILE: its bytes or hex text")
+        .help(help)
         .required(true)
         .action(ArgAction::Set)
 }

@@ -56,7 +56,10 @@ fn command<'a>(alloc: Global) -> Result<Command<'a>, AllocError> {
     Command::new(alloc, NAME)
         .version(VERSION)
         .about("makes a program with the same runs that the verifier accepts")
-        .arg(hex_or_file(alloc))?
+        .arg(hex_or_file(
+            alloc,
+            "the program, as hex text, or @FILE: its bytes or hex text",
+        ))?
         .arg(shapes(alloc))?
         .arg(context(alloc))?
         .arg(stats)

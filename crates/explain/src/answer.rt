@@ -1,19 +1,22 @@
 //! The answer to a request.
 
 use crate::folds::folded;
+use crate::sources::{SourceWords, moved};
 use crate::view::{Shown, write_view};
 use command_line::{Asked, ToExplain, explained_of};
 use engines::check::{CheckRequest, check_request_of};
 use engines::written;
 use explained_text::VerdictWords;
 use findings::CheckedText;
+use hex::encode;
 use host_file::FileFault;
 use host_types::Bytes;
-use listing::{Beside, Listing, Paint};
+use listing::{Beside, Listing, Paint, Sources};
 use lowered_text::{Copies, lowered, write_stop};
 use lowering::Lowered;
-use program_source::{hex_of, words_fault};
-use std::alloc::Global;
+use object_text::{ObjectLines, text_with_lines};
+use program_source::{Source, path_in, source_of, unreadable, words_fault};
+use std::alloc::{AllocError, Global};
 use std::io::Write;
 use std::rt::Files;
 
@@ -25,113 +28,179 @@ pub fn answer<R: AllocGlobal + Files, W: Write>(
     output: &mut W,
 ) -> Result<u8, FileFault> {
     let alloc = rt.alloc();
-    match explained_of(alloc, words).map_err(words_fault)? {
-        Asked::Program(asked) => {
-            let hex = hex_of(rt, asked.hex)?;
-            explain(alloc, &asked, hex.as_str(), paint, output)
-        }
+    let asked = match explained_of(alloc, words).map_err(words_fault)? {
+        Asked::Program(asked) => asked,
         Asked::Text(text) => {
             written(writeln!(output, "{}", text.as_str().trim_end()))?;
             written(output.flush())?;
-            Ok(0)
+            return Ok(0);
         }
+    };
+    match source_of(rt, asked.hex)? {
+        Source::Hex(hex) => {
+            if asked.section.is_some() {
+                let said = "--section chooses among the functions of an object file, and HEX is none";
+                return Err(FileFault::Usage(String::from_str(alloc, said)?));
+            }
+            let given = Given {
+                alloc,
+                asked: &asked,
+                hex: hex.as_str(),
+                sources: None,
+                paint,
+            };
+            given.explain(output)
+        }
+        Source::Object(bytes) => explain_object(alloc, asked, bytes.as_slice(), paint, output),
     }
 }
 
-/// Explains the program of a hex text, or what the lowering makes of it if that is asked for. Where it isn't lowered, what
-/// stopped that stands last. Answers the status of `check`.
-fn explain<W: Write>(
+/// Explains the program of an object file. Its maps have the shapes that the file says, where no words give shapes.
+fn explain_object<W: Write>(
     alloc: Global,
-    asked: &ToExplain<'_>,
-    hex: &str,
+    asked: ToExplain<'_>,
+    bytes: &[u8],
     paint: Paint,
     output: &mut W,
 ) -> Result<u8, FileFault> {
-    let request = check_request_of(alloc, hex, asked.shapes.as_slice(), asked.context)?;
-    let outcome = if asked.lower {
-        lowered(alloc, &request)
-    } else {
-        None
+    let ObjectLines { object, lines } = match text_with_lines(alloc, bytes, asked.section) {
+        Ok(found) => found,
+        Err(error) => return Err(unreadable(alloc, path_in(asked.hex), error)),
     };
-    let mut note = Vec::new(alloc);
-    match outcome {
-        Some(Ok(lowered)) => return explain_lowered(
-            alloc, asked, &request, &lowered, paint, output,
-        ),
-        Some(Err(stopped)) => {
-            written(write_stop(request.text.as_slice(), &stopped, &mut note))?;
-        }
-        None => {}
-    }
-    let checked = CheckedText {
-        text: request.text.as_slice(),
-        shapes: request.shapes.as_slice(),
-        context_size: request.context_size,
+    let words = object.shape_words(alloc)?;
+    let asked = ToExplain {
+        shapes: shapes_of(alloc, &asked, words.as_slice())?,
+        ..asked
     };
-    let listing = Listing::of(alloc, &checked, None);
-    let shown = Shown {
-        paint,
-        is_lowered: false,
-    };
-    show(
+    let hex = encode(alloc, object.text.as_slice())?;
+    let sources = SourceWords::of(alloc, lines.as_slice())?;
+    let given = Given {
         alloc,
-        asked,
-        &request,
-        shown,
-        listing.as_ref(),
-        note.as_slice(),
-        output,
-    )
+        asked: &asked,
+        hex: hex.as_str(),
+        sources: Some(sources.sources()),
+        paint,
+    };
+    given.explain(output)
 }
 
-/// Explains a lowered text in the same way, with the slots of the original beside its own. Of the copies of a loop the
-/// first, the second and the last are shown.
-fn explain_lowered<W: Write>(
+/// The shapes that words give, or else those of an object's maps.
+fn shapes_of<'a>(
     alloc: Global,
-    asked: &ToExplain<'_>,
-    original: &CheckRequest,
-    lowered: &Lowered,
+    asked: &ToExplain<'a>,
+    of_maps: &'a [String],
+) -> Result<Vec<&'a str>, AllocError> {
+    if !asked.shapes.is_empty() {
+        return asked.shapes.clone();
+    }
+    let mut shapes = Vec::new(alloc);
+    for shape in of_maps {
+        shapes.push(shape.as_str())?;
+    }
+    Ok(shapes)
+}
+
+/// A program that is to be explained: its hex text, and the lines of sources of which it was made, where they are known.
+#[derive(Clone, Copy)]
+struct Given<'a> {
+    alloc: Global,
+    asked: &'a ToExplain<'a>,
+    hex: &'a str,
+    sources: Option<Sources<'a>>,
     paint: Paint,
-    output: &mut W,
-) -> Result<u8, FileFault> {
-    let copies = Copies {
-        text: original.text.as_slice(),
-        lowered,
-    };
-    let folded = folded(alloc, &copies)?;
-    let beside = Beside {
-        origins: lowered.origins.as_slice(),
-        folded: folded.as_slice(),
-    };
-    let request = CheckRequest {
-        text: Bytes::from(lowered.text.clone()?),
-        shapes: original.shapes.clone()?,
-        context_size: original.context_size,
-    };
-    let checked = CheckedText {
+}
+
+impl Given<'_> {
+    /// Explains the program, or what the lowering makes of it if that is asked for. Where it isn't lowered, what stopped that
+    /// stands last. Answers the status of `check`.
+    fn explain<W: Write>(&self, output: &mut W) -> Result<u8, FileFault> {
+        let asked = self.asked;
+        let request =
+            check_request_of(self.alloc, self.hex, asked.shapes.as_slice(), asked.context)?;
+        let outcome = if asked.lower {
+            lowered(self.alloc, &request)
+        } else {
+            None
+        };
+        let mut note = Vec::new(self.alloc);
+        match outcome {
+            Some(Ok(lowered)) => return self.explain_lowered(&request, &lowered, output),
+            Some(Err(stopped)) => {
+                written(write_stop(request.text.as_slice(), &stopped, &mut note))?;
+            }
+            None => {}
+        }
+        let checked = checked_of(&request);
+        let listing = Listing::of(self.alloc, &checked, None, self.sources);
+        let shown = Shown {
+            paint: self.paint,
+            is_lowered: false,
+        };
+        self.show(&request, shown, listing.as_ref(), note.as_slice(), output)
+    }
+
+    /// Explains a lowered text in the same way, with the slots of the original beside its own, and the lines of these. Of the
+    /// copies of a loop the first, the second and the last are shown.
+    fn explain_lowered<W: Write>(
+        &self,
+        original: &CheckRequest,
+        lowered: &Lowered,
+        output: &mut W,
+    ) -> Result<u8, FileFault> {
+        let copies = Copies {
+            text: original.text.as_slice(),
+            lowered,
+        };
+        let folded = folded(self.alloc, &copies)?;
+        let origins = lowered.origins.as_slice();
+        let beside = Beside {
+            origins,
+            folded: folded.as_slice(),
+        };
+        let of_slots = moved(self.alloc, self.sources, origins)?;
+        let sources = match self.sources {
+            Some(sources) => Some(Sources {
+                lines: sources.lines,
+                of_slots: of_slots.as_slice(),
+            }),
+            None => None,
+        };
+        let request = CheckRequest {
+            text: Bytes::from(lowered.text.clone()?),
+            shapes: original.shapes.clone()?,
+            context_size: original.context_size,
+        };
+        let checked = checked_of(&request);
+        let listing = Listing::of(self.alloc, &checked, Some(beside), sources);
+        let shown = Shown {
+            paint: self.paint,
+            is_lowered: true,
+        };
+        self.show(&request, shown, listing.as_ref(), &[], output)
+    }
+
+    /// Verifies a program, and shows it with its listing. Answers the status of `check`.
+    fn show<W: Write>(
+        &self,
+        request: &CheckRequest,
+        shown: Shown,
+        listing: Option<&Listing<'_>>,
+        note: &[u8],
+        output: &mut W,
+    ) -> Result<u8, FileFault> {
+        let verdict = VerdictWords::of(self.alloc, request)?;
+        written(write_view(
+            self.alloc, output, self.asked, shown, listing, &verdict, note,
+        ))?;
+        Ok(verdict.status)
+    }
+}
+
+/// The text of a request, with its maps and its context.
+fn checked_of(request: &CheckRequest) -> CheckedText<'_> {
+    CheckedText {
         text: request.text.as_slice(),
         shapes: request.shapes.as_slice(),
         context_size: request.context_size,
-    };
-    let listing = Listing::of(alloc, &checked, Some(beside));
-    let shown = Shown {
-        paint,
-        is_lowered: true,
-    };
-    show(alloc, asked, &request, shown, listing.as_ref(), &[], output)
-}
-
-/// Verifies a program, and shows it with its listing. Answers the status of `check`.
-fn show<W: Write>(
-    alloc: Global,
-    asked: &ToExplain<'_>,
-    request: &CheckRequest,
-    shown: Shown,
-    listing: Option<&Listing<'_>>,
-    note: &[u8],
-    output: &mut W,
-) -> Result<u8, FileFault> {
-    let verdict = VerdictWords::of(alloc, request)?;
-    written(write_view(alloc, output, asked, shown, listing, &verdict, note))?;
-    Ok(verdict.status)
+    }
 }

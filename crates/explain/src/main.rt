@@ -5,6 +5,7 @@
 
 mod answer;
 mod folds;
+mod sources;
 mod view;
 
 use answer::answer;

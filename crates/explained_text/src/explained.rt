@@ -21,7 +21,7 @@ pub fn explain_text<W: Write>(
         shapes: asked.shapes.as_slice(),
         context_size: asked.context_size,
     };
-    let listing = Listing::of(alloc, &checked, None);
+    let listing = Listing::of(alloc, &checked, None, None);
     let plain = Text {
         detail: Detail::Read,
         paint: Paint::Plain,

@@ -20,5 +20,5 @@ pub use lines::fold;
 pub use location::{Differing, Fact, Location, STACK_SLOTS};
 pub use paint::Paint;
 pub use rows::{Item, Row};
-pub use shown::{Beside, Detail, Listing};
+pub use shown::{Beside, Detail, Listing, Sources};
 pub use text::Text;

@@ -14,6 +14,8 @@ pub enum Part {
     /// A slot's number and bytes, or that it isn't reached.
     Beside,
     Instruction,
+    /// A line of a source.
+    Source,
     /// What is known.
     Known,
     /// What was known on edges that join, and isn't the same on each.
@@ -28,6 +30,7 @@ impl Part {
         match self {
             Part::Beside => Some(2),
             Part::Instruction => None,
+            Part::Source => Some(32),
             Part::Known => Some(36),
             Part::Differs => Some(33),
             Part::Refused => Some(31),

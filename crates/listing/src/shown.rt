@@ -35,6 +35,13 @@ pub struct Beside<'a> {
     pub folded: &'a [bool],
 }
 
+/// The lines of sources of which a text was made, in words, and of each slot the number of its line.
+#[derive(Clone, Copy, Debug)]
+pub struct Sources<'a> {
+    pub lines: &'a [String],
+    pub of_slots: &'a [Option<u32>],
+}
+
 /// The listing of a text that was verified.
 #[derive(Drop)]
 pub struct Listing<'a> {
@@ -42,6 +49,7 @@ pub struct Listing<'a> {
     checked: CheckedText<'a>,
     all_known: Listed,
     beside: Option<Beside<'a>>,
+    sources: Option<Sources<'a>>,
 }
 
 impl<'a> Listing<'a> {
@@ -50,12 +58,14 @@ impl<'a> Listing<'a> {
         alloc: Global,
         checked: &CheckedText<'a>,
         beside: Option<Beside<'a>>,
+        sources: Option<Sources<'a>>,
     ) -> Option<Listing<'a>> {
         Some(Listing {
             alloc,
             checked: *checked,
             all_known: Listed::of(alloc, checked)?,
             beside,
+            sources,
         })
     }
 
@@ -150,6 +160,23 @@ impl<'a> Listing<'a> {
         match &self.beside {
             Some(beside) => beside.origins.get(slot as usize).copied(),
             None => None,
+        }
+    }
+
+    /// The line of a source of which a slot was made, in words, where it is known.
+    pub fn source(&self, slot: u32) -> Option<&'a str> {
+        let sources = self.sources?;
+        let number = (*sources.of_slots.get(slot as usize)?)?;
+        let words = sources.lines.get(number as usize)?;
+        Some(words.as_str())
+    }
+
+    /// The line of a source that begins at a slot that is listed: its own, where it isn't that of the slot listed before.
+    pub fn source_above(&self, slot: u32) -> Option<&'a str> {
+        let words = self.source(slot)?;
+        match slot.checked_sub(1) {
+            Some(before) if !self.is_folded(before) && self.source(before) == Some(words) => None,
+            _ => Some(words),
         }
     }
 

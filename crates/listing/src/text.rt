@@ -34,10 +34,13 @@ impl Text {
         row: Row,
     ) -> io::Result<()> {
         match row {
-            Row::Instruction(slot) => match listing.insn(slot) {
-                Some(insn) => self.write_insn(output, listing, slot, &insn),
-                None => Ok(()),
-            },
+            Row::Instruction(slot) => {
+                self.write_source(output, listing, listing.source_above(slot))?;
+                match listing.insn(slot) {
+                    Some(insn) => self.write_insn(output, listing, slot, &insn),
+                    None => Ok(()),
+                }
+            }
             Row::SecondHalf(slot) => {
                 let mut line = Line::begin(output, self.paint);
                 write_head(&mut line, listing, slot)?;
@@ -75,6 +78,7 @@ impl Text {
         let rule = format!(in alloc; "also {}", refused.fault())?;
         self.paint.write(output, Part::Refused, rule.as_str())?;
         writeln!(output)?;
+        self.write_source(output, listing, listing.source(refused.slot))?;
         self.write_insn(output, listing, refused.slot, &insn)?;
         let mut words = Vec::new(alloc);
         let kinds = listing.kinds(refused.slot);
@@ -87,6 +91,21 @@ impl Text {
             }
             _ => Ok(()),
         }
+    }
+
+    /// Writes a line of a source, if there is one, as the Linux verifier's log has it.
+    fn write_source<W: Write>(
+        &self,
+        output: &mut W,
+        listing: &Listing<'_>,
+        words: Option<&str>,
+    ) -> io::Result<()> {
+        let Some(words) = words else {
+            return Ok(());
+        };
+        let line = format!(in listing.alloc(); "; {words}")?;
+        self.paint.write(output, Part::Source, line.as_str())?;
+        writeln!(output)
     }
 
     /// Writes the line of an instruction, and what is known there.

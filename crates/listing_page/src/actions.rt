@@ -43,7 +43,7 @@ function indexAt(y) {
 function makeRow(index) {
     const row = rows[index];
     const isFolded = row.last !== undefined && !row.isGap;
-    const names = ["row", row.isGap && "gap", isFolded && "folded", row.refused && "refused", row.unreached && "unreached"];
+    const names = ["row", row.isGap && "gap", row.isSource && "source", isFolded && "folded", row.refused && "refused", row.unreached && "unreached"];
     const element = make("div", names.filter(name => name).join(" "), null, makeLine(row));
     element.dataset.index = index;
     element.id = "row-" + index;
@@ -241,10 +241,14 @@ function goToRefusal(step) {
     go(rows[ahead ?? refusals.at(step > 0 ? 0 : -1)].slot);
 }
 
+/** Goes to the first row of a slot from a row on. */
+function selectFrom(index, step) {
+    while (rows[index]?.isGap || rows[index]?.isSource) index += step;
+    select(index);
+}
+
 function move(step) {
-    let index = Math.max(-1, current) + step;
-    while (rows[index]?.isGap) index += step;
-    select(Math.min(Math.max(index, 0), rows.length - 1));
+    selectFrom(Math.min(Math.max(Math.max(-1, current) + step, 0), rows.length - 1), step);
 }
 
 /** Marks the next of the names of the current row. */
@@ -263,7 +267,7 @@ function toggleAll() {
 function find(text) {
     if (/^\d+$/.test(text) && indexOfSlot.has(Number(text))) return go(Number(text));
     const isKnown = (fact, index) => fact !== null && (NAMES[index] + " = " + fact).includes(text);
-    const has = row => row.code?.includes(text) || row.facts?.some(isKnown);
+    const has = row => row.code?.includes(text) || row.source?.includes(text) || row.facts?.some(isKnown);
     const at = rows.findIndex((row, index) => index > current && has(row));
     const index = at < 0 ? rows.findIndex(has) : at;
     if (index < 0 || !text) status.textContent = "nothing is found";
@@ -276,7 +280,7 @@ const KEYS = {
     n: () => goToRefusal(1), p: () => goToRefusal(-1),
     f: () => indexOfSlot.has(rows[current]?.jump) && go(rows[current].jump), b: () => goBack(),
     m: () => markNext(), a: () => toggleAll(), "/": () => search.focus(), "?": () => help.showModal(),
-    Home: () => select(0), End: () => select(rows.length - 1),
+    Home: () => selectFrom(0, 1), End: () => selectFrom(rows.length - 1, -1),
     Escape: () => { mark(null); for (const index of [...opened.keys()]) toggle(index); },
 };
 

@@ -33,7 +33,7 @@ function partsOf(code) {
     return parts;
 }
 
-/** The rows, with one for each gap between slots that are listed. What is known is kept as changes: here each row gets all. */
+/** The rows, with one for each gap between slots that are listed, and for each line of a source. What is known is kept as changes: here each row gets all. */
 function rowsOf(listed) {
     const rows = [];
     let known = new Array(NAMES.length).fill(null);
@@ -47,6 +47,7 @@ function rowsOf(listed) {
         row.facts = row.known ? known : null;
         row.parts = row.code ? partsOf(row.code) : [];
         row.jump = row.parts.find(part => part.target !== undefined)?.target;
+        if (row.source) rows.push({ slot: row.slot, source: row.source, isSource: true });
         row.names = new Set(row.parts.map(part => part.name).concat((row.reads ?? []).map(index => NAMES[index])));
         rows.push(row);
         next = (row.last ?? row.slot) + 1;
@@ -192,7 +193,9 @@ function makeCode(row) {
 
 function makeLine(row) {
     const line = make("div", "line", null, make("span"));
-    if (row.isGap) {
+    if (row.isSource) {
+        line.append(make("span", "words", "; " + row.source));
+    } else if (row.isGap) {
         const are = row.slot === row.last ? "slot " + row.slot + " isn't" : "slots " + row.slot + " to " + row.last + " aren't";
         line.append(make("span", "note", are + " listed: after a refused slot, those that break a rule are"));
     } else if (row.last !== undefined) {

@@ -46,6 +46,7 @@ impl<'a> Rows<'a> {
         };
         self.write_head(output, slot)?;
         if let (Row::Instruction(_), Some(insn)) = (row, self.listing.insn(slot)) {
+            self.write_source(output, self.listing.source_above(slot))?;
             self.write_insn(output, slot, &insn)?;
         }
         if let Some(refused) = self.listing.refused() {
@@ -64,6 +65,7 @@ impl<'a> Rows<'a> {
         write_comma(output, self.written)?;
         self.written = self.written.saturating_add(1);
         self.write_head(output, refused.slot)?;
+        self.write_source(output, self.listing.source(refused.slot))?;
         self.write_insn(output, refused.slot, &insn)?;
         self.write_refused(output, refused)?;
         write!(output, "}}")
@@ -77,6 +79,15 @@ impl<'a> Rows<'a> {
             Some(origin) => write!(output, ",\"origin\":{origin}"),
             None => Ok(()),
         }
+    }
+
+    /// Writes the line of a source that stands above an instruction, if there is one.
+    fn write_source<W: Write>(&self, output: &mut W, words: Option<&str>) -> io::Result<()> {
+        let Some(words) = words else {
+            return Ok(());
+        };
+        write!(output, ",\"source\":")?;
+        write_string(self.listing.alloc(), output, words)
     }
 
     /// Writes an instruction, what it reads and what is known before it runs.

@@ -69,6 +69,9 @@ kbd { padding: 0 5px; border: 1px solid var(--line); border-bottom-width: 2px; b
 .row.unreached .code, .row.unreached .bytes { opacity: .5; }
 .row.gap, .row.folded { cursor: default; }
 .row.gap .note, .row.folded .note { grid-column: 2 / -1; padding-left: 14px; color: var(--dim); font: italic 13px var(--sans); }
+.row.source { cursor: default; }
+.row.source .words { grid-column: 2 / -1; padding-left: 14px; overflow: hidden; color: var(--good); text-overflow: ellipsis;
+  white-space: nowrap; }
 .slot { color: var(--dim); text-align: right; user-select: none; }
 .row.refused .slot { color: var(--bad); font-weight: 700; }
 .origin { overflow: hidden; color: var(--stack); text-align: right; }

@@ -145,7 +145,7 @@ fn section_at(info: &[u8], at: usize, size: usize) -> Option<(usize, &[u8])> {
     Some((name, records))
 }
 
-/// Adds the lines of a section.
+/// Adds the lines of a section. A record of line 0 names none: its slots go on with the line before.
 fn add_records<'a>(
     source: &Records<'a>,
     section: &Section,
@@ -160,8 +160,9 @@ fn add_records<'a>(
         let Some((offset, line)) = line_in(source, record) else {
             return Err(source.bad());
         };
-        if let Some(at) = section.start.checked_add(offset) {
-            add_line(at, line, texts, lines);
+        match section.start.checked_add(offset) {
+            Some(at) if line.number > 0 => add_line(at, line, texts, lines),
+            _ => {}
         }
     }
     Ok(())

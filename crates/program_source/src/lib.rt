@@ -9,4 +9,4 @@ mod source;
 
 pub use line::{words_fault, words_of};
 pub use lines::{Answers, run};
-pub use source::hex_of;
+pub use source::{Source, hex_of, path_in, source_of, unreadable};

@@ -2,15 +2,15 @@
 
 use std::fmt;
 
-/// The most bytes of a file.
-pub const MOST: usize = 1 << 20;
+/// The most bytes of a file that is no object.
+const MOST: usize = 1 << 20;
 
 /// What a file is that is neither hex text nor the bytes of a program that may be accepted.
 #[derive(Clone, Copy, Debug, PartialEq, Eq)]
 pub enum Other {
     /// It has more bytes than hex text of the longest program, with spaces between its digits.
     Long,
-    /// An object file, whose section `.text` may be a program.
+    /// An object file.
     Elf,
     /// Text that begins with a byte order mark.
     Marked,
@@ -25,8 +25,8 @@ impl Other {
     /// formed: no instruction has their opcode, or RSH has an offset.
     pub fn of(bytes: &[u8]) -> Option<Other> {
         match bytes {
-            _ if bytes.len() > MOST => Some(Other::Long),
             [0x7f, b'E', b'L', b'F', ..] => Some(Other::Elf),
+            _ if bytes.len() > MOST => Some(Other::Long),
             [0xef, 0xbb, 0xbf, ..] | [0xff, 0xfe, ..] | [0xfe, 0xff, ..] => Some(Other::Marked),
             _ => Other::of_text(bytes),
         }
@@ -66,7 +66,7 @@ impl fmt::Display for Other {
             Other::Long => write!(f, "it has more than {MOST} bytes"),
             Other::Elf => write!(
                 f,
-                "it is an ELF object; write its program by `llvm-objcopy -O binary --only-section=.text`"
+                "it is an ELF object; lower its program by `bpf_object --lower`"
             ),
             Other::Marked => write!(
                 f,

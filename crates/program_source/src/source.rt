@@ -1,6 +1,6 @@
 //! The program that a word HEX names.
 
-use crate::other::{MOST, Other};
+use crate::other::Other;
 use host_file::FileFault;
 use std::alloc::{AllocError, Global};
 use std::io::{self, Read};
@@ -8,39 +8,67 @@ use std::rt::Files;
 use std::{fmt, fs};
 use terminal_text::quoted;
 
-/// The hex text that a word is, or that is made of the file that it names after an `@`. A file of hex digits and white
-/// space alone is hex text; of every other one its bytes are the program. A fault says what is wrong with other text, and with
-/// an object file: no program that may be accepted has their bytes.
-pub fn hex_of<R: AllocGlobal + Files>(rt: &R, word: &str) -> Result<String, FileFault> {
+/// One byte more than a file may have: an object file.
+const MOST_READ: u64 = (1 << 24) + 1;
+
+/// What a word names.
+#[derive(Debug, Drop)]
+pub enum Source {
+    /// The program of a hex text.
+    Hex(String),
+    /// That of the object file of these bytes.
+    Object(Vec<u8>),
+}
+
+/// The hex text that a word is, or what is in the file that it names after an `@`. A file of hex digits and white space
+/// alone is hex text; of every other one that is no object file its bytes are the program. A fault says what is wrong with other
+/// text: no program that may be accepted has its bytes.
+pub fn source_of<R: AllocGlobal + Files>(rt: &R, word: &str) -> Result<Source, FileFault> {
     let alloc = rt.alloc();
     let Some(path) = word.strip_prefix('@') else {
-        return Ok(String::from_str(alloc, word)?);
+        return Ok(Source::Hex(String::from_str(alloc, word)?));
     };
     match bytes_at(rt, path) {
         Ok(bytes) => match Other::of(bytes.as_slice()) {
-            Some(other) => unreadable(alloc, path, other),
-            None => Ok(hex_in(alloc, bytes.as_slice())?),
+            Some(Other::Elf) => Ok(Source::Object(bytes)),
+            Some(other) => Err(unreadable(alloc, path, other)),
+            None => Ok(Source::Hex(hex_in(alloc, bytes.as_slice())?)),
         },
-        Err(error) => unreadable(alloc, path, error),
+        Err(error) => Err(unreadable(alloc, path, error)),
     }
 }
 
+/// The same of a program that takes no object files.
+pub fn hex_of<R: AllocGlobal + Files>(rt: &R, word: &str) -> Result<String, FileFault> {
+    match source_of(rt, word)? {
+        Source::Hex(hex) => Ok(hex),
+        Source::Object(_) => Err(unreadable(rt.alloc(), path_in(word), Other::Elf)),
+    }
+}
+
+/// The path in a word that names a file.
+pub fn path_in(word: &str) -> &str {
+    word.strip_prefix('@').unwrap_or(word)
+}
+
 /// The fault of a file that can't be read, with the path and why.
-fn unreadable(
-    alloc: Global,
-    path: &str,
-    why: impl fmt::Display + Drop,
-) -> Result<String, FileFault> {
+pub fn unreadable(alloc: Global, path: &str, why: impl fmt::Display + Drop) -> FileFault {
+    match said_of(alloc, path, why) {
+        Ok(said) => FileFault::Usage(said),
+        Err(error) => FileFault::OutOfMemory(error),
+    }
+}
+
+fn said_of(alloc: Global, path: &str, why: impl fmt::Display + Drop) -> Result<String, AllocError> {
     let path = quoted(alloc, path)?;
-    let said = format!(in alloc; "cannot read {path}: {why}")?;
-    Err(FileFault::Usage(said))
+    format!(in alloc; "cannot read {path}: {why}")
 }
 
 /// The first bytes of the file at a path, one more than it may have.
 fn bytes_at<R: AllocGlobal + Files>(rt: &R, path: &str) -> io::Result<Vec<u8>> {
     let mut file = fs::open(rt, path)?;
     let mut bytes = Vec::new(rt.alloc());
-    let mut front = file.take(MOST as u64 + 1);
+    let mut front = file.take(MOST_READ);
     front.read_to_end(&mut bytes)?;
     Ok(bytes)
 }
