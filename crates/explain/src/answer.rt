@@ -39,7 +39,8 @@ pub fn answer<R: AllocGlobal + Files, W: Write>(
     match source_of(rt, asked.hex)? {
         Source::Hex(hex) => {
             if asked.section.is_some() {
-                let said = "--section chooses among the functions of an object file, and HEX is none";
+                let said =
+                    "--section chooses among the functions of an object file, and HEX is none";
                 return Err(FileFault::Usage(String::from_str(alloc, said)?));
             }
             let given = Given {
@@ -115,8 +116,12 @@ impl Given<'_> {
     /// stands last. Answers the status of `check`.
     fn explain<W: Write>(&self, output: &mut W) -> Result<u8, FileFault> {
         let asked = self.asked;
-        let request =
-            check_request_of(self.alloc, self.hex, asked.shapes.as_slice(), asked.context)?;
+        let request = check_request_of(
+            self.alloc,
+            self.hex,
+            asked.shapes.as_slice(),
+            asked.context,
+        )?;
         let outcome = if asked.lower {
             lowered(self.alloc, &request)
         } else {

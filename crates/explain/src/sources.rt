@@ -137,7 +137,11 @@ fn text_of(alloc: Global, bytes: &[u8]) -> Result<String, AllocError> {
 fn ascii_of(alloc: Global, bytes: &[u8]) -> Result<String, AllocError> {
     let mut text = String::new(alloc);
     for byte in bytes {
-        text.push(if byte.is_ascii() { spaced(char::from(*byte)) } else { '?' })?;
+        text.push(if byte.is_ascii() {
+            spaced(char::from(*byte))
+        } else {
+            '?'
+        })?;
     }
     Ok(text)
 }
