@@ -7,7 +7,7 @@ use Rattle.host_types.specs.declared.fault.Fault.{Fault}
 use Rattle.host_types.specs.declared.fault.Fault.TheVariants.{Program, TooManyMaps, BadShape, BadContext, OutOfMemory}
 use Rattle.host_types.specs.Refusals.{fault_number}
 use Rattle.verifier.specs.Subject.{Subject, IsContextSize}
-use Rattle.verifier.specs.Verified.{Accepted, AreShapes, IsVerified}
+use Rattle.verifier.specs.Verified.{AreShapes}
 use Rattle.lowering.specs.declared.rewriting.NotLowered.{NotLowered}
 use Rattle.lowering.specs.declared.stop.Stop.TheVariants as stop
 use Rattle.lowering.specs.Laws.{EndAlike, KeepsFaultless}
@@ -49,10 +49,6 @@ RefusesLimits given size BadShape = (length given ≤ 8) × ¬ (AreShapes (shape
 RefusesLimits given size BadContext = (length given ≤ 8) × AreShapes (shapes_given given) × ¬ (IsContextSize size)
 RefusesLimits given size fault = ⊥
 
--- the verifier accepts a subject: it has a lawful table
-abbrev pub IsAccepted : Subject → Accepted → Type 0
-IsAccepted p accepted = (accepted.subject ≡ p) × IsVerified accepted
-
 -- why the verifier refuses a text: for its maps or its context, or by its first fault or the first rule that it breaks
 abbrev pub RefusesText : List ℕ → List BpfHostShape → ℕ → Fault → Type 0
 RefusesText text given size fault =
@@ -77,7 +73,7 @@ put_code bytes old = if nat_le (length bytes) (length old) then 0 else 102
 
 -- What the lowering makes of a text: the verifier accepts it, its runs end as those of the text, and where no run of it fails, no run of
 -- the text does. A text that the verifier accepts is left as it is.
-pub record IsMade (text : List ℕ) (given : List BpfHostShape) (size : ℕ) (lowered : List ℕ) : Type 0 where
+pub record IsLoweredText (text : List ℕ) (given : List BpfHostShape) (size : ℕ) (lowered : List ℕ) : Type 0 where
   pub allowed : AreAllowed given size
   pub origins : List ℕ
   pub covers : IsLowered text lowered origins
@@ -103,7 +99,7 @@ RefusesLowering text given size fault =
 -- A call lowers a text: it writes what the lowering makes of it and how many bytes that has, or is refused.
 abbrev pub IsLoweringOf : List ℕ → List BpfHostShape → ℕ → ℕ → List ℕ → List ℕ → ℕ → ℕ → BpfHostRefused → BpfHostRefused → Type 0
 IsLoweringOf text given size result old new was is before after =
-    ((lowered : List ℕ) × IsMade text given size lowered × (result ≡ put_code lowered old) × (new ≡ put_into lowered old)
+    ((lowered : List ℕ) × IsLoweredText text given size lowered × (result ≡ put_code lowered old) × (new ≡ put_into lowered old)
     × (is ≡ length lowered) × (after ≡ before))
     ⊎ ((fault : Fault) × HasRefused fault result before after × RefusesLowering text given size fault × (new ≡ old) × (is ≡ was))
 

@@ -1,6 +1,7 @@
 //! Calls on a text alone: whether the verifier accepts it, and what the lowering makes of it. They need no handle.
 ghost use Rattle.std.specs.Prelude.{IfErr, IfOk, OnOk};
-ghost use Rattle.bpf_host_c.specs.Texts.{AreAllowed, HasRefused, IsAccepted, IsFaultOf, IsLoweringOf, IsMade, IsVerdictOn, RefusesLowering, RefusesText, subject_given};
+ghost use Rattle.engines.specs.Check.{IsAccepted};
+ghost use Rattle.bpf_host_c.specs.Texts.{AreAllowed, HasRefused, IsFaultOf, IsLoweredText, IsLoweringOf, IsVerdictOn, RefusesLowering, RefusesText, subject_given};
 
 use crate::buffer::put;
 use crate::given::allowed;
@@ -69,7 +70,7 @@ fn made(
     shapes: &[BpfHostShape],
     context_size: u32,
 ) -> Result<Lowered, Fault>
-    ensures made { IfOk result (λ made. IsMade text.now shapes.now context_size made.text.items) }
+    ensures made { IfOk result (λ made. IsLoweredText text.now shapes.now context_size made.text.items) }
     ensures refused { IfErr result (RefusesLowering text.now shapes.now context_size) }
 {
     let shapes = allowed(shapes, context_size)?;
