@@ -43,7 +43,8 @@ pub fn check<W: Write, E: Write>(
     ensures silent { OnErr result (diagnostics.new ≡ diagnostics.old) }
 {
     let asked = check_request_of(alloc, hex, shapes, context)?;
-    answer_request(alloc, &asked, output, diagnostics)
+    let status = answer_request(alloc, &asked, output, diagnostics)?;
+    Ok(status)
 }
 
 /// Verifies a program that is asked for, and writes what `check` writes of it. Answers the status.
