@@ -64,7 +64,11 @@ fn explain_object<W: Write>(
     paint: Paint,
     output: &mut W,
 ) -> Result<u8, FileFault> {
-    let ObjectLines { object, lines } = match text_with_lines(alloc, bytes, asked.section) {
+    let ObjectLines {
+        object,
+        lines,
+        of_slots,
+    } = match text_with_lines(alloc, bytes, asked.section) {
         Ok(found) => found,
         Err(error) => return Err(unreadable(alloc, path_in(asked.hex), error)),
     };
@@ -74,7 +78,7 @@ fn explain_object<W: Write>(
         ..asked
     };
     let hex = encode(alloc, object.text.as_slice())?;
-    let sources = SourceWords::of(alloc, lines.as_slice())?;
+    let sources = SourceWords::of(alloc, lines.as_slice(), of_slots.as_slice())?;
     let given = Given {
         alloc,
         asked: &asked,

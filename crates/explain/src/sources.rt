@@ -19,24 +19,42 @@ pub struct SourceWords {
 
 impl SourceWords {
     /// The words of the line of each slot.
-    pub fn of(alloc: Global, lines: &[Option<SourceLine<'_>>]) -> Result<Self, AllocError> {
+    pub fn of(
+        alloc: Global,
+        lines: &[SourceLine<'_>],
+        of_slots: &[Option<u32>],
+    ) -> Result<Self, AllocError> {
         let mut words = SourceWords {
             lines: Vec::new(alloc),
             of_slots: Vec::new(alloc),
         };
         let mut before = None;
-        for line in lines {
-            if let Some(found) = line {
-                if before != *line {
-                    words.lines.push(words_of(alloc, found)?)?;
-                }
-                words.of_slots.push(words.last())?;
-            } else {
-                words.of_slots.push(None)?;
+        for number in of_slots {
+            let number = *number;
+            if number != before {
+                words.push(alloc, lines, number)?;
             }
-            before = *line;
+            let last = if number.is_some() { words.last() } else { None };
+            words.of_slots.push(last)?;
+            before = number;
         }
         Ok(words)
+    }
+
+    /// Adds the words of the line with a number.
+    fn push(
+        &mut self,
+        alloc: Global,
+        lines: &[SourceLine<'_>],
+        number: Option<u32>,
+    ) -> Result<(), AllocError> {
+        let Some(number) = number else {
+            return Ok(());
+        };
+        if let Some(line) = lines.get(number as usize) {
+            self.lines.push(words_of(alloc, line)?)?;
+        }
+        Ok(())
     }
 
     /// The number of the last line.

@@ -42,6 +42,14 @@ pub struct Sources<'a> {
     pub of_slots: &'a [Option<u32>],
 }
 
+impl<'a> Sources<'a> {
+    /// The words of the line of a slot.
+    fn words(&self, slot: u32) -> Option<&'a str> {
+        let number = (*self.of_slots.get(slot as usize)?)?;
+        Some(self.lines.get(number as usize)?.as_str())
+    }
+}
+
 /// The listing of a text that was verified.
 #[derive(Drop)]
 pub struct Listing<'a> {
@@ -165,10 +173,10 @@ impl<'a> Listing<'a> {
 
     /// The line of a source of which a slot was made, in words, where it is known.
     pub fn source(&self, slot: u32) -> Option<&'a str> {
-        let sources = self.sources?;
-        let number = (*sources.of_slots.get(slot as usize)?)?;
-        let words = sources.lines.get(number as usize)?;
-        Some(words.as_str())
+        match &self.sources {
+            Some(sources) => sources.words(slot),
+            None => None,
+        }
     }
 
     /// The line of a source that begins at a slot that is listed: its own, where it isn't that of the slot listed before.

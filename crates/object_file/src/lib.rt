@@ -18,7 +18,7 @@ mod relocation;
 mod text;
 
 pub use error::{Cause, Location, ObjectError};
-pub use lines::{SourceLine, TextLines, lines_of};
+pub use lines::{SourceLine, SourceLines, TextLines, lines_of};
 pub use map::Map;
 pub use program::{Program, program_of};
 pub use text::{Call, Text};

@@ -23,10 +23,17 @@ pub struct SourceLine<'a> {
     pub number: u32,
 }
 
-/// The lines of each slot of a text, where they are known.
+/// Of each slot of a text the number of its line, where one is known.
 #[derive(Drop)]
-pub struct TextLines<'a> {
-    pub slots: Vec<Option<SourceLine<'a>>>,
+pub struct TextLines {
+    pub slots: Vec<Option<u32>>,
+}
+
+/// Lines of sources, and those of which the slots of texts were made.
+#[derive(Drop)]
+pub struct SourceLines<'a> {
+    pub lines: Vec<SourceLine<'a>>,
+    pub texts: Vec<TextLines>,
 }
 
 /// Of each slot of the texts of a program the line of which it was made: that of the last record at it or before it. None is known
@@ -35,11 +42,14 @@ pub fn lines_of<'a>(
     alloc: Global,
     bytes: &'a [u8],
     texts: &[Text],
-) -> Result<Vec<TextLines<'a>>, ObjectError> {
-    let mut lines = no_lines(alloc, texts)?;
+) -> Result<SourceLines<'a>, ObjectError> {
+    let mut found = SourceLines {
+        lines: Vec::new(alloc),
+        texts: no_lines(alloc, texts)?,
+    };
     let object = Object::read(bytes)?;
     let (Some(section), Some(types)) = (object.named(b".BTF.ext")?, object.named(b".BTF")?) else {
-        return Ok(lines);
+        return Ok(found);
     };
     let Some(names) = names_of(object.contents(&types)?) else {
         return Err(ObjectError::at(types.number, 0, Cause::BadBtf));
@@ -52,15 +62,15 @@ pub fn lines_of<'a>(
         number: section.number,
         names,
     };
-    add_sections(&source, info, texts, lines.as_mut_slice())?;
-    for of_text in &mut lines {
+    add_sections(&source, info, texts, &mut found)?;
+    for of_text in &mut found.texts {
         spread(of_text.slots.as_mut_slice());
     }
-    Ok(lines)
+    Ok(found)
 }
 
 /// No line of any slot of texts.
-fn no_lines<'a>(alloc: Global, texts: &[Text]) -> Result<Vec<TextLines<'a>>, AllocError> {
+fn no_lines(alloc: Global, texts: &[Text]) -> Result<Vec<TextLines>, AllocError> {
     let mut lines = Vec::new(alloc);
     for text in texts {
         let mut slots = Vec::new(alloc);
@@ -104,7 +114,7 @@ fn add_sections<'a>(
     source: &Records<'a>,
     info: &[u8],
     texts: &[Text],
-    lines: &mut [TextLines<'a>],
+    found: &mut SourceLines<'a>,
 ) -> Result<(), ObjectError> {
     if info.is_empty() {
         return Ok(());
@@ -129,7 +139,7 @@ fn add_sections<'a>(
         left -= count;
         if let Some(name) = front_at(source.names, name) {
             if let Some(section) = source.object.named(name)? {
-                add_records(source, &section, records, size, texts, lines)?;
+                add_records(source, &section, records, size, texts, found)?;
             }
         }
         at = at.saturating_add(8).saturating_add(records.len());
@@ -152,7 +162,7 @@ fn add_records<'a>(
     records: &[u8],
     size: usize,
     texts: &[Text],
-    lines: &mut [TextLines<'a>],
+    found: &mut SourceLines<'a>,
 ) -> Result<(), ObjectError>
     requires { 1 ≤ size }
 {
@@ -160,9 +170,15 @@ fn add_records<'a>(
         let Some((offset, line)) = line_in(source, record) else {
             return Err(source.bad());
         };
-        match section.start.checked_add(offset) {
-            Some(at) if line.number > 0 => add_line(at, line, texts, lines),
-            _ => {}
+        let (Some(at), Ok(number)) = (
+            section.start.checked_add(offset),
+            u32::try_from(found.lines.len()),
+        ) else {
+            continue;
+        };
+        if line.number > 0 {
+            found.lines.push(line)?;
+            add_line(at, number, texts, found.texts.as_mut_slice());
         }
     }
     Ok(())
@@ -178,8 +194,8 @@ fn line_in<'a>(source: &Records<'a>, record: &[u8]) -> Option<(usize, SourceLine
     Some((u32_at(record, 0)? as usize, line))
 }
 
-/// Adds a line at a byte of the file, where a slot of a text begins there.
-fn add_line<'a>(at: usize, line: SourceLine<'a>, texts: &[Text], lines: &mut [TextLines<'a>]) {
+/// Adds a line, by its number, at a byte of the file, where a slot of a text begins there.
+fn add_line(at: usize, number: u32, texts: &[Text], lines: &mut [TextLines]) {
     for (text, of_text) in texts.iter().zip(lines.iter_mut()) {
         let Some(offset) = at.checked_sub(text.begin) else {
             continue;
@@ -188,13 +204,13 @@ fn add_line<'a>(at: usize, line: SourceLine<'a>, texts: &[Text], lines: &mut [Te
             continue;
         }
         if let Some(slot) = of_text.slots.get_mut(offset / 8) {
-            *slot = Some(line);
+            *slot = Some(number);
         }
     }
 }
 
 /// Gives each slot without a line that of the slot before it.
-fn spread(slots: &mut [Option<SourceLine<'_>>]) {
+fn spread(slots: &mut [Option<u32>]) {
     let mut before = None;
     for slot in slots {
         if slot.is_some() {

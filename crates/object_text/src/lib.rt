@@ -20,11 +20,12 @@ pub struct ObjectText {
     pub maps: Vec<Map>,
 }
 
-/// The text of an object's program, and of each slot the line of a source of which it was made, where that is known.
+/// The text of an object's program, lines of sources, and of each slot the number of that of which it was made, where that is known.
 #[derive(Drop)]
 pub struct ObjectLines<'a> {
     pub object: ObjectText,
-    pub lines: Vec<Option<SourceLine<'a>>>,
+    pub lines: Vec<SourceLine<'a>>,
+    pub of_slots: Vec<Option<u32>>,
 }
 
 impl ObjectText {
@@ -61,22 +62,25 @@ pub fn text_with_lines<'a>(
 ) -> Result<ObjectLines<'a>, NotTaken> {
     let program = program_of(alloc, bytes, name)?;
     let whole = whole_of(alloc, program.texts.as_slice())?;
-    let of_texts = lines_of(alloc, bytes, program.texts.as_slice())?;
-    let mut lines = Vec::new(alloc);
+    let found = lines_of(alloc, bytes, program.texts.as_slice())?;
+    let mut of_slots = Vec::new(alloc);
     for origin in &whole.origins {
-        lines.push(line_at(of_texts.as_slice(), origin.function, origin.slot))?;
+        of_slots.push(line_at(found.texts.as_slice(), origin.function, origin.slot))?;
     }
     let object = ObjectText {
         text: whole.text,
         maps: program.maps,
     };
-    Ok(ObjectLines { object, lines })
+    Ok(ObjectLines {
+        object,
+        lines: found.lines,
+        of_slots,
+    })
 }
 
-/// The line of a slot of a function.
-fn line_at<'a>(lines: &[TextLines<'a>], function: usize, slot: usize) -> Option<SourceLine<'a>> {
-    let line = lines.get(function)?.slots.get(slot)?;
-    *line
+/// The number of the line of a slot of a function.
+fn line_at(lines: &[TextLines], function: usize, slot: usize) -> Option<u32> {
+    *lines.get(function)?.slots.get(slot)?
 }
 
 /// One text of a function and of those that it calls, the first of these.
