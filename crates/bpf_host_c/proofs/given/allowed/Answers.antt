@@ -1,8 +1,6 @@
 use Rattle.std.proofs.Common.{◌≤◌, All, IfSome, length, sym, subst, arith}
 use Rattle.host_types.specs.Shapes.{IsShape}
-use Rattle.verifier.specs.Subject.{IsContextSize}
-use Rattle.verifier.specs.Verified.{AreShapes}
-use Rattle.bpf_host_c.specs.Texts.{AreAllowed, shapes_given}
+use Rattle.bpf_host_c.specs.Texts.{shapes_given}
 use Rattle.bpf_host_c.proofs.Textual.{eight_shapes}
 use Rattle.bpf_host_c.proofs.given.allowed.Goals as goal
 
