@@ -98,8 +98,8 @@ static bool read_words(const char *row, struct asked *asked)
     return is_text;
 }
 
-/* The verdict that a line tells: 0 of one that accepts, and of a refusal its number and its slot, if it has one. */
-static uint32_t told_verdict(const char *line, uint32_t *slot)
+/* The verdict that a line has: 0 of one that accepts, and of a refusal its number and its slot, if it has one. */
+static uint32_t verdict_of(const char *line, uint32_t *slot)
 {
     uint32_t number = 0;
     if (sscanf(line, "refused %u %*s at %u", &number, slot) < 2)
@@ -111,7 +111,7 @@ static void check_verdict(const struct asked *asked, const char *line, const cha
 {
     struct bpf_host_refused refused = {77, 78, 79};
     uint32_t slot;
-    uint32_t number = told_verdict(line, &slot);
+    uint32_t number = verdict_of(line, &slot);
     uint32_t code = bpf_host_verify(asked->text, asked->text_len, asked->shapes, asked->shapes_len, asked->context_size, &refused);
     wanted(code == number, "another verdict", row);
     wanted(refused.slot == slot && refused.need == 78 && refused.have == 79, "another slot", row);
@@ -128,7 +128,7 @@ static void check_lowering(const struct asked *asked, const char *line, const ch
     uint32_t code = bpf_host_lower(asked->text, asked->text_len, asked->shapes, asked->shapes_len, asked->context_size,
                                    lowered, sizeof lowered, &written, &refused);
     if (strncmp(line, "! refused", 9) == 0) {
-        uint32_t number = told_verdict(line + 2, &slot);
+        uint32_t number = verdict_of(line + 2, &slot);
         wanted(code == number && refused.slot == slot && written == 12345, "not refused so", row);
         check_verdict(asked, line + 2, row);
     } else {
@@ -142,7 +142,9 @@ static void check_lower(const char *path)
     static struct asked asked;
     read_lines(path);
     for (size_t at = 0; at + 1 < count; at++) {
-        if (strncmp(lines[at], "$ ", 2) == 0 && read_words(lines[at], &asked) && strncmp(lines[at + 1], "status", 6) != 0) {
+        /* The words of a row may be wrong, or ask for no text. */
+        bool is_asked = strncmp(lines[at + 1], "status", 6) != 0 && strncmp(lines[at + 1], "! error", 7) != 0;
+        if (strncmp(lines[at], "$ ", 2) == 0 && read_words(lines[at], &asked) && is_asked) {
             rows++;
             check_lowering(&asked, lines[at + 1], lines[at]);
         }
