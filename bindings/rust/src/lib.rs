@@ -46,7 +46,7 @@
 //!
 //! let host = Host::new(2, 1, Options::default())?;
 //! let counters = std::thread::spawn(move || host.counters()).join().unwrap()?;
-//! assert_eq!(counters.frames_free, 2);
+//! assert_eq!(counters.frames_free, 1); // the other one is the zero frame
 //! # Ok::<(), bpf_host::Refused>(())
 //! ```
 //!

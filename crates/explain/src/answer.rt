@@ -1,7 +1,7 @@
 //! The answer to a request.
 
 use crate::folds::folded;
-use crate::sources::{SourceWords, moved};
+use crate::sources::SourceWords;
 use crate::view::{Shown, write_view};
 use command_line::{Asked, ToExplain, explained_of};
 use engines::check::{CheckRequest, check_request_of};
@@ -11,7 +11,7 @@ use findings::CheckedText;
 use hex::encode;
 use host_file::FileFault;
 use host_types::Bytes;
-use listing::{Beside, Listing, Paint, Sources};
+use listing::{Beside, Listing, Paint};
 use lowered_text::{Copies, lowered, write_stop};
 use lowering::Lowered;
 use object_text::{ObjectLines, text_with_lines};
@@ -43,14 +43,7 @@ pub fn answer<R: AllocGlobal + Files, W: Write>(
                     "--section chooses among the functions of an object file, and HEX is none";
                 return Err(FileFault::Usage(String::from_str(alloc, said)?));
             }
-            let given = Given {
-                alloc,
-                asked: &asked,
-                hex: hex.as_str(),
-                sources: None,
-                paint,
-            };
-            given.explain(output)
+            explain(alloc, &asked, hex.as_str(), None, paint, output)
         }
         Source::Object(bytes) => explain_object(alloc, asked, bytes.as_slice(), paint, output),
     }
@@ -79,14 +72,7 @@ fn explain_object<W: Write>(
     };
     let hex = encode(alloc, object.text.as_slice())?;
     let sources = SourceWords::of(alloc, lines.as_slice(), of_slots.as_slice())?;
-    let given = Given {
-        alloc,
-        asked: &asked,
-        hex: hex.as_str(),
-        sources: Some(sources.sources()),
-        paint,
-    };
-    given.explain(output)
+    explain(alloc, &asked, hex.as_str(), Some(sources), paint, output)
 }
 
 /// The shapes that words give, or else those of an object's maps.
@@ -105,104 +91,109 @@ fn shapes_of<'a>(
     Ok(shapes)
 }
 
-/// A program that is to be explained: its hex text, and the lines of sources of which it was made, where they are known.
-#[derive(Clone, Copy)]
-struct Given<'a> {
+/// Explains the program of a hex text, or what the lowering makes of it if that is asked for, with the lines of sources of
+/// which it was made, where they are known. Where it isn't lowered, what stopped that stands last. Answers the status of
+/// `check`.
+fn explain<W: Write>(
     alloc: Global,
-    asked: &'a ToExplain<'a>,
-    hex: &'a str,
-    sources: Option<Sources<'a>>,
+    asked: &ToExplain<'_>,
+    hex: &str,
+    sources: Option<SourceWords>,
     paint: Paint,
+    output: &mut W,
+) -> Result<u8, FileFault> {
+    let request = check_request_of(alloc, hex, asked.shapes.as_slice(), asked.context)?;
+    let outcome = if asked.lower {
+        lowered(alloc, &request)
+    } else {
+        None
+    };
+    let mut note = Vec::new(alloc);
+    match outcome {
+        Some(Ok(lowered)) => return explain_lowered(
+            alloc, asked, &request, &lowered, sources, paint, output,
+        ),
+        Some(Err(stopped)) => {
+            written(write_stop(request.text.as_slice(), &stopped, &mut note))?;
+        }
+        None => {}
+    }
+    let checked = checked_of(&request);
+    let lines = match &sources {
+        Some(words) => Some(words.sources()),
+        None => None,
+    };
+    let listing = Listing::of(alloc, &checked, None, lines);
+    let shown = Shown {
+        paint,
+        is_lowered: false,
+    };
+    show(
+        alloc,
+        asked,
+        &request,
+        shown,
+        listing.as_ref(),
+        note.as_slice(),
+        output,
+    )
 }
 
-impl Given<'_> {
-    /// Explains the program, or what the lowering makes of it if that is asked for. Where it isn't lowered, what stopped that
-    /// stands last. Answers the status of `check`.
-    fn explain<W: Write>(&self, output: &mut W) -> Result<u8, FileFault> {
-        let asked = self.asked;
-        let request = check_request_of(
-            self.alloc,
-            self.hex,
-            asked.shapes.as_slice(),
-            asked.context,
-        )?;
-        let outcome = if asked.lower {
-            lowered(self.alloc, &request)
-        } else {
-            None
-        };
-        let mut note = Vec::new(self.alloc);
-        match outcome {
-            Some(Ok(lowered)) => return self.explain_lowered(&request, &lowered, output),
-            Some(Err(stopped)) => {
-                written(write_stop(request.text.as_slice(), &stopped, &mut note))?;
-            }
-            None => {}
-        }
-        let checked = checked_of(&request);
-        let listing = Listing::of(self.alloc, &checked, None, self.sources);
-        let shown = Shown {
-            paint: self.paint,
-            is_lowered: false,
-        };
-        self.show(&request, shown, listing.as_ref(), note.as_slice(), output)
-    }
+/// Explains a lowered text in the same way, with the slots of the original beside its own, and the lines of these. Of the
+/// copies of a loop the first, the second and the last are shown.
+fn explain_lowered<W: Write>(
+    alloc: Global,
+    asked: &ToExplain<'_>,
+    original: &CheckRequest,
+    lowered: &Lowered,
+    sources: Option<SourceWords>,
+    paint: Paint,
+    output: &mut W,
+) -> Result<u8, FileFault> {
+    let copies = Copies {
+        text: original.text.as_slice(),
+        lowered,
+    };
+    let folded = folded(alloc, &copies)?;
+    let beside = Beside {
+        origins: lowered.origins.as_slice(),
+        folded: folded.as_slice(),
+    };
+    let words = match sources {
+        Some(words) => Some(words.moved(alloc, lowered.origins.as_slice())?),
+        None => None,
+    };
+    let lines = match &words {
+        Some(words) => Some(words.sources()),
+        None => None,
+    };
+    let request = CheckRequest {
+        text: Bytes::from(lowered.text.clone()?),
+        shapes: original.shapes.clone()?,
+        context_size: original.context_size,
+    };
+    let checked = checked_of(&request);
+    let listing = Listing::of(alloc, &checked, Some(beside), lines);
+    let shown = Shown {
+        paint,
+        is_lowered: true,
+    };
+    show(alloc, asked, &request, shown, listing.as_ref(), &[], output)
+}
 
-    /// Explains a lowered text in the same way, with the slots of the original beside its own, and the lines of these. Of the
-    /// copies of a loop the first, the second and the last are shown.
-    fn explain_lowered<W: Write>(
-        &self,
-        original: &CheckRequest,
-        lowered: &Lowered,
-        output: &mut W,
-    ) -> Result<u8, FileFault> {
-        let copies = Copies {
-            text: original.text.as_slice(),
-            lowered,
-        };
-        let folded = folded(self.alloc, &copies)?;
-        let origins = lowered.origins.as_slice();
-        let beside = Beside {
-            origins,
-            folded: folded.as_slice(),
-        };
-        let of_slots = moved(self.alloc, self.sources, origins)?;
-        let sources = match self.sources {
-            Some(sources) => Some(Sources {
-                lines: sources.lines,
-                of_slots: of_slots.as_slice(),
-            }),
-            None => None,
-        };
-        let request = CheckRequest {
-            text: Bytes::from(lowered.text.clone()?),
-            shapes: original.shapes.clone()?,
-            context_size: original.context_size,
-        };
-        let checked = checked_of(&request);
-        let listing = Listing::of(self.alloc, &checked, Some(beside), sources);
-        let shown = Shown {
-            paint: self.paint,
-            is_lowered: true,
-        };
-        self.show(&request, shown, listing.as_ref(), &[], output)
-    }
-
-    /// Verifies a program, and shows it with its listing. Answers the status of `check`.
-    fn show<W: Write>(
-        &self,
-        request: &CheckRequest,
-        shown: Shown,
-        listing: Option<&Listing<'_>>,
-        note: &[u8],
-        output: &mut W,
-    ) -> Result<u8, FileFault> {
-        let verdict = VerdictWords::of(self.alloc, request)?;
-        written(write_view(
-            self.alloc, output, self.asked, shown, listing, &verdict, note,
-        ))?;
-        Ok(verdict.status)
-    }
+/// Verifies a program, and shows it with its listing. Answers the status of `check`.
+fn show<W: Write>(
+    alloc: Global,
+    asked: &ToExplain<'_>,
+    request: &CheckRequest,
+    shown: Shown,
+    listing: Option<&Listing<'_>>,
+    note: &[u8],
+    output: &mut W,
+) -> Result<u8, FileFault> {
+    let verdict = VerdictWords::of(alloc, request)?;
+    written(write_view(alloc, output, asked, shown, listing, &verdict, note))?;
+    Ok(verdict.status)
 }
 
 /// The text of a request, with its maps and its context.

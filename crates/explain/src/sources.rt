@@ -69,23 +69,20 @@ impl SourceWords {
             of_slots: self.of_slots.as_slice(),
         }
     }
-}
 
-/// The number of the line of each slot of a lowered text: that of the slot for which it stands.
-pub fn moved(
-    alloc: Global,
-    sources: Option<Sources<'_>>,
-    origins: &[u16],
-) -> Result<Vec<Option<u32>>, AllocError> {
-    let mut moved = Vec::new(alloc);
-    let Some(sources) = sources else {
-        return Ok(moved);
-    };
-    for origin in origins {
-        let number = sources.of_slots.get(usize::from(*origin));
-        moved.push(number.copied().flatten())?;
+    /// The same of a lowered text, each of whose slots has the line of the slot for which it stands.
+    pub fn moved(self, alloc: Global, origins: &[u16]) -> Result<Self, AllocError> {
+        let SourceWords {
+            lines,
+            of_slots: before,
+        } = self;
+        let mut of_slots = Vec::new(alloc);
+        for origin in origins {
+            let number = before.get(usize::from(*origin));
+            of_slots.push(number.copied().flatten())?;
+        }
+        Ok(SourceWords { lines, of_slots })
     }
-    Ok(moved)
 }
 
 /// A line as the Linux verifier's log has it: its text, the name of its file, and its number.

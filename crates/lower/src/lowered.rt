@@ -34,7 +34,7 @@ impl Answers for Lower {
         E: Write,
     {
         match lowered_of(rt.alloc(), words).map_err(words_fault)? {
-            Asked::Program(asked) => lower(rt, &asked, output, errors),
+            Asked::Program(asked) => lower_program(rt, &asked, output, errors),
             Asked::Text(text) => {
                 written(writeln!(output, "{}", text.as_str().trim_end()))?;
                 Ok(0)
@@ -44,7 +44,7 @@ impl Answers for Lower {
 }
 
 /// Lowers a program.
-fn lower<R, W, E>(
+fn lower_program<R, W, E>(
     rt: &R,
     asked: &ToLower<'_>,
     output: &mut W,
