@@ -11,7 +11,7 @@ use findings::CheckedText;
 use hex::encode;
 use host_file::FileFault;
 use host_types::Bytes;
-use listing::{Beside, Listing, Paint};
+use listing::{Beside, Listing, Paint, Sources};
 use lowered_text::{Copies, lowered, write_stop};
 use lowering::Lowered;
 use object_text::{ObjectLines, text_with_lines};
@@ -118,25 +118,38 @@ fn explain<W: Write>(
         }
         None => {}
     }
-    let checked = checked_of(&request);
     let lines = match &sources {
         Some(words) => Some(words.sources()),
         None => None,
     };
-    let listing = Listing::of(alloc, &checked, None, lines);
+    explain_given(
+        alloc,
+        asked,
+        &request,
+        lines,
+        note.as_slice(),
+        paint,
+        output,
+    )
+}
+
+/// Explains a text as it is, with a note after it.
+fn explain_given<'a, W: Write>(
+    alloc: Global,
+    asked: &ToExplain<'_>,
+    request: &'a CheckRequest,
+    sources: Option<Sources<'a>>,
+    note: &[u8],
+    paint: Paint,
+    output: &mut W,
+) -> Result<u8, FileFault> {
+    let checked = checked_of(request);
+    let listing = Listing::of(alloc, &checked, None, sources);
     let shown = Shown {
         paint,
         is_lowered: false,
     };
-    show(
-        alloc,
-        asked,
-        &request,
-        shown,
-        listing.as_ref(),
-        note.as_slice(),
-        output,
-    )
+    show(alloc, asked, request, shown, listing.as_ref(), note, output)
 }
 
 /// Explains a lowered text in the same way, with the slots of the original beside its own, and the lines of these. Of the

@@ -95,7 +95,7 @@ fn write_legend<W: Write>(output: &mut W, line: Line, number: u64) -> io::Result
     let style = line.style();
     let name = line.name();
     let x = LEFT.saturating_add(number % 3 * 220);
-    let y = (number / 3 * 22).saturating_add(360);
+    let y = (number / 3).saturating_mul(22).saturating_add(360);
     writeln!(
         output,
         "<path class=\"line {name}\" d=\"M{x} {y}h40\" fill=\"none\" stroke-width=\"2\" {style}/>"
