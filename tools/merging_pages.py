@@ -96,8 +96,9 @@ def wanted_rows(document):
 
 
 def keys_in_order(event):
-    """An event with its keys in the order in which a page names them."""
+    """An event with its keys in the order in which a page names them. A step without a count is one step."""
     order = ["do", "option", "tenant", "map", "program", "key", "value_size", "entries", "mergeable", "hex", "context", "value", "count"]
+    event = {"count": 1, **event} if event["do"] == "step" else event
     return {key: event[key] for key in order if key in event}
 
 
