@@ -19,9 +19,9 @@
  *     101         the handle is open already (bpf_host_new)
  *     102         the buffer has another length than the value (bpf_host_lookup) or is too short (bpf_host_lower, bpf_host_explain), or the contexts
  *                 can't have one size (bpf_host_run_many)
- * 41 comes only where nothing else is refused, but that bpf_host_load returns it before 11 to 25 where there is no memory to verify the text, and
- * bpf_host_lookup before 102. bpf_host_update takes no memory, and bpf_host_begin and _run only where the context is longer than those of the
- * tenant's runs before.
+ * 41 comes only where nothing else is refused, but that bpf_host_load returns it before 11 to 25 where there is no memory to verify the text.
+ * bpf_host_lookup and bpf_host_update take no memory, and bpf_host_begin and _run only where the context is longer than those of the tenant's
+ * runs before.
  * A call that doesn't return 0 changed nothing: neither the host nor what the caller's pointers lead to, but for the members of
  * `*refused` that the number speaks of (slot; need and have), and `*written` where a buffer is too short.
  *
@@ -164,7 +164,7 @@ uint32_t bpf_host_begin(struct bpf_host *host, uint32_t tenant, uint32_t program
  * 37. */
 uint32_t bpf_host_step(struct bpf_host *host, uint32_t tenant, uint64_t steps, bool *ended, struct bpf_host_run *run);
 
-/* Copies a value of a map to just as many bytes. 100, 42, 34, 35, 41, 102. */
+/* Copies a value of a map to just as many bytes. 100, 42, 34, 35, 102. */
 uint32_t bpf_host_lookup(struct bpf_host *host, uint32_t tenant, uint32_t map, uint32_t key, uint8_t *value, size_t value_len);
 
 /* Writes a value of a map. 100, 42, 36, 34, 35, 33, 31. */

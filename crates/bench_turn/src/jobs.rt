@@ -6,12 +6,15 @@ ghost use Rattle.turn.specs.Seats.{IsIdle};
 use host_types::{Fault, Options};
 use page_table::Memory;
 use std::alloc::Global;
+use std::io;
+use std::rt::Clock;
 use std::sync::{Mutex, Wait};
+use std::time::{Duration, Instant};
 use turn::{Seat, Turn};
 
 /// What a thread does again and again.
 pub trait Job {
-    fn work<R: Wait>(&mut self, rt: &R, count: u32);
+    fn work<R: Wait + Clock>(&mut self, rt: &R, count: u32);
 }
 
 /// Takes and gives the memory.
@@ -19,6 +22,10 @@ pub trait Job {
 pub struct Turns<'a> {
     pub turn: &'a Turn,
     pub seat: Seat,
+    /// Whether each wait for the memory is timed, which takes longer than a turn.
+    pub is_timed: bool,
+    /// The longest of the waits that were timed.
+    pub longest: Duration,
     ghost idle: { IsIdle turn.now seat },
 }
 
@@ -29,15 +36,20 @@ pub struct Locks<'a> {
 }
 
 impl Job for Turns<'_> {
-    fn work<R: Wait>(&mut self, rt: &R, count: u32) {
+    fn work<R: Wait + Clock>(&mut self, rt: &R, count: u32) {
         for _turn in 0..count {
-            turn(rt, self.turn, &mut self.seat);
+            if self.is_timed {
+                let waited = timed_turn(rt, self.turn, &mut self.seat);
+                self.longest = self.longest.max(waited.unwrap_or(Duration::ZERO));
+            } else {
+                turn(rt, self.turn, &mut self.seat);
+            }
         }
     }
 }
 
 impl Job for Locks<'_> {
-    fn work<R: Wait>(&mut self, rt: &R, count: u32) {
+    fn work<R: Wait + Clock>(&mut self, rt: &R, count: u32) {
         for _turn in 0..count {
             drop(self.memory.lock(rt));
         }
@@ -51,6 +63,18 @@ fn turn(rt: &impl Wait, turn: &Turn, seat: &mut Seat)
 {
     let held = turn.take(rt, seat);
     turn.give(seat, held);
+}
+
+/// One turn, in which nothing is done: how long it was waited for.
+fn timed_turn<R: Wait + Clock>(rt: &R, turn: &Turn, seat: &mut Seat) -> io::Result<Duration>
+    requires { IsIdle turn.now seat.old }
+    ensures { IsIdle turn.now seat.new }
+{
+    let start = Instant::now(rt)?;
+    let held = turn.take(rt, seat);
+    let waited = start.elapsed(rt);
+    turn.give(seat, held);
+    waited
 }
 
 /// A turn with four seats.

@@ -55,6 +55,27 @@ fn middle<R: Clock + Threads + Wait + Sync>(
     Ok([of_turns[ROUNDS / 2], of_locks[ROUNDS / 2]])
 }
 
+/// The longest time that one of the threads waited for its turn. It is measured in a round of its own, since a look at the clock
+/// takes longer than a turn.
+fn longest_wait<R: Clock + Threads + Wait + Sync>(
+    rt: &R,
+    turns: &mut [Turns<'_>],
+    each: u32,
+) -> io::Result<Duration> {
+    for job in turns.iter_mut() {
+        job.is_timed = true;
+    }
+    time(rt, turns, each)?;
+    for job in turns.iter_mut() {
+        job.is_timed = false;
+    }
+    Ok(
+        turns
+            .iter()
+            .fold(Duration::ZERO, |longest, job| longest.max(job.longest)),
+    )
+}
+
 /// Prints the table, a row for each number of threads.
 fn print_table<R: Print + Clock + Threads + Wait + Sync>(
     rt: &R,
@@ -62,15 +83,20 @@ fn print_table<R: Print + Clock + Threads + Wait + Sync>(
     locks: &mut [Locks<'_>; 4],
     count: u32,
 ) -> io::Result<()> {
-    println!(rt; "| threads | turn, ns | mutex, ns | times |")?;
-    println!(rt; "|---|---|---|---|")?;
+    println!(rt;
+        "| threads | turn, ns | mutex, ns | times | turns a second, all threads | longest wait, us |"
+    )?;
+    println!(rt; "|---|---|---|---|---|---|")?;
     for threads in [1, 2, 4] {
         let each = count / (threads as u32);
         let middles = middle(rt, &mut turns[..threads], &mut locks[..threads], each)?;
         let [turn, lock] = middles.map(|time| time.as_secs_f64() * 1e9 / f64::from(count));
+        let longest = longest_wait(rt, &mut turns[..threads], each)?;
         println!(rt;
-            "| {threads} | {turn:.1} | {lock:.1} | {:.1} |",
-            turn / lock
+            "| {threads} | {turn:.1} | {lock:.1} | {:.1} | {:.0} | {:.0} |",
+            turn / lock,
+            1e9 / turn,
+            longest.as_secs_f64() * 1e6
         )?;
     }
     Ok(())
@@ -94,18 +120,26 @@ fn measure<R: Print + Clock + Threads + Wait + Sync>(
         Turns {
             turn: &turn,
             seat: first,
+            is_timed: false,
+            longest: Duration::ZERO,
         },
         Turns {
             turn: &turn,
             seat: second,
+            is_timed: false,
+            longest: Duration::ZERO,
         },
         Turns {
             turn: &turn,
             seat: third,
+            is_timed: false,
+            longest: Duration::ZERO,
         },
         Turns {
             turn: &turn,
             seat: fourth,
+            is_timed: false,
+            longest: Duration::ZERO,
         },
     ];
     let mut locks = [

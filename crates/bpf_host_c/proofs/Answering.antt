@@ -1,16 +1,19 @@
 -- Answers of an open handle, and a whole run.
-use Rattle.std.proofs.Common.{◌≡◌, ◌≢◌, ℕ, List, true, false, inl, inr, Option, Some, None, sym, ap, ◌∙◌, refl, subst}
+use Rattle.std.proofs.Common.{◌≡◌, ◌≢◌, ◌==◌, ℕ, List, length, if◌then◌else◌, true, false, inl, inr, Option, Some, None, Result, Ok, Err, IfErr, sym, ap, ◌∙◌, refl, subst}
 use lib.Dec.{T}
 use Rattle.host_types.specs.declared.event.Event.TheVariants.{Begin}
+use Rattle.host_types.specs.declared.fault.Fault.{Fault}
+use Rattle.host_types.specs.declared.fault.Fault.TheVariants.{OutOfMemory}
+use Rattle.host_types.specs.Refusals.{fault_number}
 use Rattle.host_core.specs.declared.reply.Reply.{Reply}
 use Rattle.host_core.specs.declared.reply.Reply.TheVariants.{Map, Program, Begun, Stepped, Ended, Visited, Done, Value, Counters, Refused}
 use Rattle.host_core.specs.World.{System}
 use Rattle.host_core.specs.Happens.{StepsHappen}
-use Rattle.host_core.specs.HostView.{HostView}
+use Rattle.host_core.specs.HostView.{HostView, IsCopied}
 use Rattle.bpf_host_c.specs.declared.answer.Answer.{Answer}
 use Rattle.bpf_host_c.specs.declared.answer.Answer.TheVariants.{Replied}
 use Rattle.bpf_host_c.specs.Answered.{HasAnswer, Goes, Serves, RunsWhole}
-use Rattle.bpf_host_c.specs.Codes.{is_begun}
+use Rattle.bpf_host_c.specs.Codes.{copied_code, is_begun, lookup_code, value_copied}
 
 module _ (Happening : Reply → System → System → Type 0) where
   -- what happened to the host that was taken out of a handle and put back is what the reply answers
@@ -20,6 +23,36 @@ module _ (Happening : Reply → System → System → Type 0) where
       subst (λ (before : Option HostView). HasAnswer Happening (Replied reply) before n) (sym is_had)
       (subst (λ (after : Option HostView). HasAnswer Happening (Replied reply) (Some had) after) (sym is_new)
       (subst (λ (host : HostView). Goes (Happening reply) host new) is_old goes))
+
+-- a lookup that copied its value, and one that was refused, answer as the event
+pub copied-answered : (reply : Reply) (result : Result ℕ Fault) (old new : List ℕ) → IsCopied reply result old new
+    → (copied_code result (length old) ≡ lookup_code (Replied reply) old) × (new ≡ value_copied (Replied reply) old)
+copied-answered (Value bytes) (Ok size) old new (sized, is) = (ap (λ n. if n == length old then 0 else 102) sized, is)
+copied-answered (Value bytes) (Err refused) old new copied = absurd copied
+copied-answered (Refused fault) (Err refused) old new (same, is) = (ap fault_number same, is)
+copied-answered (Refused fault) (Ok size) old new copied = absurd copied
+copied-answered (Map number) result old new copied = absurd copied
+copied-answered (Program number) result old new copied = absurd copied
+copied-answered Begun result old new copied = absurd copied
+copied-answered Stepped result old new copied = absurd copied
+copied-answered (Ended number steps) result old new copied = absurd copied
+copied-answered (Visited visited) result old new copied = absurd copied
+copied-answered Done result old new copied = absurd copied
+copied-answered (Counters counters) result old new copied = absurd copied
+
+-- one that took no memory isn't refused for it
+pub copied-not_lacking : (reply : Reply) (result : Result ℕ Fault) (old new : List ℕ) → IsCopied reply result old new → IfErr result (λ fault. fault ≢ OutOfMemory) → Replied reply ≢ Replied (Refused OutOfMemory)
+copied-not_lacking (Refused fault) (Err refused) old new (same, is) lacks_none is_lacking = lacks_none (let is_fault : fault ≡ OutOfMemory = cc in same ∙ is_fault)
+copied-not_lacking (Refused fault) (Ok size) old new copied lacks_none is_lacking = absurd copied
+copied-not_lacking (Value bytes) result old new copied lacks_none is_lacking = absurd (cc)
+copied-not_lacking (Map number) result old new copied lacks_none is_lacking = absurd copied
+copied-not_lacking (Program number) result old new copied lacks_none is_lacking = absurd copied
+copied-not_lacking Begun result old new copied lacks_none is_lacking = absurd copied
+copied-not_lacking Stepped result old new copied lacks_none is_lacking = absurd copied
+copied-not_lacking (Ended number steps) result old new copied lacks_none is_lacking = absurd copied
+copied-not_lacking (Visited visited) result old new copied lacks_none is_lacking = absurd copied
+copied-not_lacking Done result old new copied lacks_none is_lacking = absurd copied
+copied-not_lacking (Counters counters) result old new copied lacks_none is_lacking = absurd copied
 
 pub begun_is : (reply : Reply) → is_begun reply ≡ true → reply ≡ Begun
 begun_is Begun so = refl

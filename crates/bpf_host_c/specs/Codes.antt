@@ -1,5 +1,5 @@
 -- What a call returns and writes of its answer. What the answer doesn't speak of is as it was.
-use Rattle.std.specs.Prelude.{ℕ, List, length, ◌==◌, if◌then◌else◌, Bool, true, false, Option, Some, None}
+use Rattle.std.specs.Prelude.{ℕ, List, length, ◌==◌, if◌then◌else◌, Bool, true, false, Option, Some, None, Result, Ok, Err}
 use Rattle.host_types.specs.declared.fault.Fault.{Fault}
 use Rattle.host_types.specs.declared.fault.Fault.TheVariants.{Program as Unaccepted, NoFrames}
 use Rattle.host_types.specs.Refusals.{fault_number}
@@ -69,6 +69,11 @@ value_copied answer old = old
 abbrev pub lookup_code : Answer → List ℕ → ℕ
 lookup_code (Replied (Value bytes)) old = if length bytes == length old then 0 else 102
 lookup_code answer old = call_code answer
+
+-- the number of a lookup that had so much room
+abbrev pub copied_code : Result ℕ Fault → ℕ → ℕ
+copied_code (Ok size) room = if size == room then 0 else 102
+copied_code (Err fault) room = fault_number fault
 
 -- whether a run ended, where its last step was no refusal
 abbrev pub ended_written : Answer → Bool → Bool

@@ -12,7 +12,7 @@ pub enum Answer {
 
 impl Answer {
     ghost use Rattle.std.specs.Prelude.{◌≡◌};
-    ghost use Rattle.bpf_host_c.specs.Codes.{call_code, lookup_code, new_map_number, new_program_number, run_written, ended_written, value_copied, counters_written, refused_written};
+    ghost use Rattle.bpf_host_c.specs.Codes.{call_code, new_map_number, new_program_number, run_written, ended_written, counters_written, refused_written};
 
     /// The number that the call returns.
     pub(crate) fn code(&self) -> u32
@@ -88,21 +88,5 @@ impl Answer {
         if let Answer::Replied(Reply::Refused(fault)) = self {
             refused.write(fault);
         }
-    }
-
-    /// Writes a value that was read to bytes of its length: the number that the call returns. Bytes of another length stay.
-    pub(crate) fn write_value(&self, value: &mut [u8]) -> u32
-        ensures value { value.new ≡ value_copied self.now value.old }
-        ensures code { result ≡ lookup_code self.now value.old }
-    {
-        let Answer::Replied(Reply::Value(bytes)) = self else {
-            return self.code();
-        };
-        let bytes = bytes.as_slice();
-        if bytes.len() != value.len() {
-            return 102;
-        }
-        value.copy_from_slice(bytes);
-        0
     }
 }

@@ -1,4 +1,7 @@
-ghost use Rattle.std.specs.Prelude.{◌≡◌, MatchOption};
+ghost use Rattle.std.specs.Prelude.{◌≡◌, ◌≢◌, MatchOption};
+ghost use Rattle.host_types.specs.declared.fault.Fault.TheVariants.{OutOfMemory};
+ghost use Rattle.host_core.specs.declared.reply.Reply.TheVariants.{Refused};
+ghost use Rattle.bpf_host_c.specs.declared.answer.Answer.TheVariants.{Replied};
 ghost use Rattle.host_types.specs.declared.event.Event.TheVariants.{CreateMap, Load, Begin, HostUpdate, HostLookup, Unload, DropMap, Set, Unmerge, Counters};
 ghost use Rattle.bpf_host_c.specs.declared.answer.Answer.{Answer as CallAnswer};
 ghost use Rattle.bpf_host_c.specs.Answered.{HasAnswer, IsNoOption, Serves};
@@ -130,7 +133,7 @@ pub extern "C" fn bpf_host_update(
     answer.code()
 }
 
-/// Reads the value of an element of a tenant's map, to just as many bytes.
+/// Copies the value of an element of a tenant's map to just as many bytes. It takes no memory.
 #[unsafe(no_mangle)]
 pub extern "C" fn bpf_host_lookup(
     alloc: Global,
@@ -142,10 +145,10 @@ pub extern "C" fn bpf_host_lookup(
 ) -> u32
     ensures { (answer : CallAnswer)
         × HasAnswer (Serves (HostLookup tenant map key)) answer handle.old.owner.host handle.new.owner.host
+        × (answer ≢ Replied (Refused OutOfMemory))
         × (result ≡ lookup_code answer value.old) × (value.new ≡ value_copied answer value.old) }
 {
-    let answer = handle.serve(alloc, &Event::HostLookup { tenant, map, key });
-    answer.write_value(value)
+    handle.lookup(alloc, tenant, map, key, value)
 }
 
 /// Sets an option of the scanner: 0 to 3, in the order of `BpfHostOptions`.

@@ -1,10 +1,11 @@
 ghost use Rattle.std.specs.Prelude.{◌≡◌, is_some};
+ghost use Rattle.bpf_host_c.specs.Codes.{copied_code};
 
 use crate::answer::Answer;
 use crate::loose::Loose;
 use crate::owner::Owner;
 use host_core::{Event, Host};
-use host_types::MapNo;
+use host_types::{Fault, MapNo};
 use std::alloc::Global;
 use std::marker::Send;
 
@@ -17,9 +18,14 @@ pub struct BpfHost {
 }
 
 impl BpfHost {
-    ghost use Rattle.std.specs.Prelude.{◌≡◌, MatchOption, Some, None};
-    ghost use Rattle.host_types.specs.declared.event.Event.TheVariants.{Load, Begin, HostUpdate};
+    ghost use Rattle.std.specs.Prelude.{◌≡◌, ◌≢◌, MatchOption, Some, None};
+    ghost use Rattle.host_types.specs.declared.event.Event.TheVariants.{Load, Begin, HostUpdate, HostLookup};
+    ghost use Rattle.host_types.specs.declared.fault.Fault.TheVariants.{OutOfMemory};
+    ghost use Rattle.host_core.specs.declared.reply.Reply.TheVariants.{Refused};
+    ghost use Rattle.bpf_host_c.specs.declared.answer.Answer.{Answer as CallAnswer};
+    ghost use Rattle.bpf_host_c.specs.declared.answer.Answer.TheVariants.{Replied};
     ghost use Rattle.bpf_host_c.specs.Answered.{HasAnswer, Serves};
+    ghost use Rattle.bpf_host_c.specs.Codes.{lookup_code, value_copied};
 
     /// Takes the host out, which leaves the handle closed.
     pub(crate) fn take(&mut self, alloc: Global) -> Option<Box<Host>>
@@ -106,6 +112,40 @@ impl BpfHost {
         let reply = host.update(tenant, map, key, value);
         self.put(host);
         Answer::Replied(reply)
+    }
+
+    /// Copies a value of a map to bytes of its length: the number that the call returns.
+    pub(crate) fn lookup(
+        &mut self,
+        alloc: Global,
+        tenant: u32,
+        map: MapNo,
+        key: u32,
+        value: &mut [u8],
+    ) -> u32
+        ensures { (answer : CallAnswer)
+            × HasAnswer (Serves (HostLookup tenant map key)) answer self.old.owner.host self.new.owner.host
+            × (answer ≢ Replied (Refused OutOfMemory))
+            × (result ≡ lookup_code answer value.old) × (value.new ≡ value_copied answer value.old) }
+    {
+        let Some(host) = self.take(alloc) else {
+            return 100;
+        };
+        let room = value.len();
+        let copied = host.lookup(tenant, map, key, value);
+        self.put(host);
+        copied_code(copied, room)
+    }
+}
+
+/// The number that a lookup returns: 102 where the value has another length than the room that there was.
+fn copied_code(copied: Result<u32, Fault>, room: usize) -> u32
+    ensures { result ≡ copied_code copied room }
+{
+    match copied {
+        Ok(size) if size as usize == room => 0,
+        Ok(_) => 102,
+        Err(fault) => fault.number(),
     }
 }
 

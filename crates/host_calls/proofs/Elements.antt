@@ -1,8 +1,8 @@
 -- Tenants and elements that are there, and values byte by byte.
 use Rattle.std.proofs.Common.{◌≡◌, ◌≢◌, ◌∙◌, ℕ, zero, suc, ◌+◌, ◌*◌, ◌<◌, ◌≤◌, ◌==◌, nat_le, nat_lt, Bool, true, false, not, if◌then◌else◌, List, [], ◌∷◌, ◌++◌, take, drop, length, slice_index_or, inl, inr, Option, Some, None, option_map, unwrap_or, IfSome, IsSomeAnd, refl, sym, ap, arith, All}
 use Rattle.std.proofs.lemmas.Bool.Decides.{nat_tests}
-use Rattle.std.proofs.lemmas.List.{length-drop, drop-drop}
-use Rattle.std.proofs.lemmas.List.Elements.{All-head, All-tail}
+use Rattle.std.proofs.lemmas.List.{drop-drop}
+use Rattle.std.proofs.Math.Seq.{take-add}
 use Rattle.host_types.specs.declared.fault.Fault.{Fault}
 use Rattle.host_types.specs.declared.fault.Fault.TheVariants.{NoFrames, BadShape, NoMap, NoElement, OutOfMemory, BadTenant}
 use Rattle.host_types.specs.declared.shape.Shape.{Shape}
@@ -10,6 +10,8 @@ use Rattle.host_types.specs.Bytes.{part_of, number_of}
 use Rattle.host_types.specs.Helpers.{element_at, update_charge}
 use Rattle.host_types.specs.Memory.{FlatMap, map_at}
 use Rattle.host_types.specs.Tenant.{TenantPart, IsFlatMap}
+use Rattle.host_types.proofs.Elements.{element-in-map}
+use Rattle.host_types.proofs.Lists.{length-part_of}
 use Rattle.page_table.specs.State.{MemoryState, part, have_of}
 use Rattle.page_table.proofs.Recording.{length-part}
 use Rattle.host_calls.specs.Calls.{RefusesLookup, RefusesUpdate, NamesHave, lookup_refusal_in, or_bad_tenant, refused_lookup, refused_update, update_refusal_in}
@@ -105,6 +107,15 @@ by_map : (first : Option Fault) (key have : ℕ) (value : List ℕ) (shape : Sha
 by_map first key have value shape None is each = absurd (cc)
 by_map first key have value shape (Some flat) is each = each flat (cc)
 
+-- what a refusal of a lookup is not: memory that ran out
+refused-not_lacking : (found : Option FlatMap) (key : ℕ) (fault : Fault) → lookup_refusal_in found key ≡ Some fault → fault ≢ OutOfMemory
+refused-not_lacking None key fault refused lacks = absurd (cc)
+refused-not_lacking (Some flat) key fault refused lacks = by_test (nat_le flat.shape.entries key) refl
+  where
+    by_test : (b : Bool) → nat_le flat.shape.entries key ≡ b → ⊥
+    by_test true answered = absurd (let is = rw answered at refused in cc)
+    by_test false answered = absurd (let is = rw answered at refused in cc)
+
 -- what a refusal of a lookup says of frames: nothing
 answered-nothing : (memory : MemoryState) (found : Option FlatMap) (key : ℕ) (fault : Fault) → lookup_refusal_in found key ≡ Some fault → NamesHave memory fault
 answered-nothing memory None key fault refused = let same : fault ≡ NoMap = cc in rw same tt
@@ -140,6 +151,12 @@ module _ (memory : MemoryState) (t m key : ℕ) (value : List ℕ) where
       by_there (NamesHave memory fault)
       (λ answered. answered-nothing memory found key fault (sym (ap (λ b. if b then lookup_refusal_in found key else Some BadTenant) answered) ∙ refused))
       (λ answered. let is : Some BadTenant ≡ Some fault = sym (ap (λ b. if b then lookup_refusal_in found key else Some BadTenant) answered) ∙ refused in let same : fault ≡ BadTenant = cc in rw same tt)
+
+  pub lookup_takes_none : (fault : Fault) → refused_lookup memory t m key ≡ Some fault → fault ≢ OutOfMemory
+  lookup_takes_none fault refused =
+      by_there (fault ≢ OutOfMemory)
+      (λ answered. refused-not_lacking found key fault (sym (ap (λ b. if b then lookup_refusal_in found key else Some BadTenant) answered) ∙ refused))
+      (λ answered lacks. let is : Some BadTenant ≡ Some fault = sym (ap (λ b. if b then lookup_refusal_in found key else Some BadTenant) answered) ∙ refused in absurd (cc))
 
   pub lookup_refuses : (fault : Fault) → refused_lookup memory t m key ≡ Some fault → RefusesLookup owned m key fault
   lookup_refuses fault refused = inl refused
@@ -193,55 +210,11 @@ module _ (memory : MemoryState) (t m key : ℕ) (value : List ℕ) where
         ∙ ap (λ b. if b then (if nat_lt (have_of memory) (update_charge shape) then Some (NoFrames (update_charge shape) (have_of memory)) else None) else Some BadShape) same_size
         ∙ ap (λ b. if b then Some (NoFrames (update_charge shape) (have_of memory)) else None) missing))
 
--- one byte of a list
-one-part : (xs : List ℕ) (at : ℕ) → at < length xs → part_of xs at 1 ≡ slice_index_or xs at 0 ∷ []
+-- two parts of a list, one after the other
+pub part-joined : (xs : List ℕ) (at first second : ℕ) → part_of xs at first ++ part_of xs (at + first) second ≡ part_of xs at (first + second)
 unfolding part_of
-one-part [] at h = absurd (omega (arith, h))
-one-part (x ∷ xs) zero h = refl
-one-part (x ∷ xs) (suc at) h = one-part xs at (omega (arith, h))
-
-number-one : (x : ℕ) → number_of (x ∷ []) ≡ x
-unfolding number_of
-number-one x = omega arith
-
-small-at : (xs : List ℕ) (at : ℕ) → All (λ byte. byte < 256) xs → at < length xs → slice_index_or xs at 0 < 256
-small-at [] at h less = absurd (omega (arith, less))
-small-at (x ∷ xs) zero h less = All-head (λ byte. byte < 256) x xs h
-small-at (x ∷ xs) (suc at) h less = small-at xs at (All-tail (λ byte. byte < 256) x xs h) (omega (arith, less))
-
--- the number of one byte is that byte
-pub byte-same : (xs : List ℕ) (at : ℕ) → at < length xs → number_of (part_of xs at 1) ∷ [] ≡ part_of xs at 1
-byte-same xs at h =
-    let one = one-part xs at h in
-    ap (λ (l : List ℕ). number_of l ∷ []) one ∙ ap (λ (n : ℕ). n ∷ []) (number-one (slice_index_or xs at 0)) ∙ sym one
-
--- the number of one byte of a map is below 256
-pub byte-small : (found : Option FlatMap) (at : ℕ) → IfSome found IsFlatMap → at < length (bytes_in found) → number_of (part_of (bytes_in found) at 1) < 256
-byte-small None at valid h = absurd (omega (arith, h))
-byte-small (Some flat) at valid h =
-    let one : number_of (part_of flat.bytes at 1) ≡ slice_index_or flat.bytes at 0 = ap number_of (one-part flat.bytes at h) ∙ number-one (slice_index_or flat.bytes at 0) in
-    let small = small-at flat.bytes at valid.bytes h in
-    omega (arith, one, small)
-
-take-more : (ys : List ℕ) (n : ℕ) → n < length ys → take (suc n) ys ≡ take n ys ++ take 1 (drop n ys)
-take-more [] n h = absurd (omega (arith, h))
-take-more (y ∷ ys) zero h = refl
-take-more (y ∷ ys) (suc n) h = ap (λ (l : List ℕ). y ∷ l) (take-more ys n (omega (arith, h)))
-
--- a part with one more byte
-pub part-more : (xs : List ℕ) (at n : ℕ) → at + n < length xs → part_of xs at (n + 1) ≡ part_of xs at n ++ part_of xs (at + n) 1
-unfolding part_of
-part-more xs at n h =
-    let long = length-drop at xs in
-    let next : n + 1 ≡ suc n = omega arith in
-    ap (λ (m : ℕ). take m (drop at xs)) next
-    ∙ take-more (drop at xs) n (omega (arith, long, h))
-    ∙ ap (λ (l : List ℕ). take n (drop at xs) ++ take 1 l) (drop-drop n at xs)
-
--- a part of no bytes
-pub part-none : (xs : List ℕ) (at : ℕ) → [] ≡ part_of xs at 0
-unfolding part_of
-part-none xs at = refl
+part-joined xs at first second =
+    sym (take-add first second (drop at xs) ∙ ap (λ (rest : List ℕ). take first (drop at xs) ++ take second rest) (drop-drop first at xs))
 
 -- the bytes that were read are the element's value
 pub value-read : (shape : Shape) (key : ℕ) (bytes : List ℕ) (found : Option FlatMap) → shape_in found ≡ Some shape → key < shape.entries
@@ -249,3 +222,18 @@ pub value-read : (shape : Shape) (key : ℕ) (bytes : List ℕ) (found : Option 
     → IsSomeAnd found (λ flat. (key < flat.shape.entries) × (bytes ≡ part_of flat.bytes (element_at flat.shape key) flat.shape.value_size))
 value-read shape key bytes None is there e = absurd (cc)
 value-read shape key bytes (Some flat) is there e = let same : flat.shape ≡ shape = cc in rw (same) (there, e)
+
+-- bytes that haven't the length of the element's value stay as they are
+pub value-left : (shape : Shape) (key : ℕ) (old : List ℕ) (found : Option FlatMap) → shape_in found ≡ Some shape → IfSome found IsFlatMap → key < shape.entries → length old ≢ shape.value_size
+    → (value : List ℕ) × IsSomeAnd found (λ flat. (key < flat.shape.entries) × (value ≡ part_of flat.bytes (element_at flat.shape key) flat.shape.value_size))
+    × (shape.value_size ≡ length value) × (old ≡ (if length value == length old then value else old))
+value-left shape key old None is valid there other = absurd (cc)
+value-left shape key old (Some flat) is valid there other =
+    let same : flat.shape ≡ shape = cc in
+    let value : List ℕ = part_of flat.bytes (element_at flat.shape key) flat.shape.value_size in
+    let less : key < flat.shape.entries = rw same there in
+    let inside = element-in-map flat.shape key less in
+    let sized : length value ≡ flat.shape.value_size = length-part_of flat.bytes (element_at flat.shape key) flat.shape.value_size (omega (arith, inside, valid.sized)) in
+    let size : length value ≡ shape.value_size = sized ∙ ap (λ (s : Shape). s.value_size) same in
+    let unlike : (length value == length old) ≡ false = differs (length value) (length old) (λ e. other (sym e ∙ size)) in
+    (value, (less, refl), sym size, sym (ap (λ b. if b then value else old) unlike))

@@ -29,6 +29,11 @@ abbrev pub IsValue : TenantPart → ℕ → ℕ → List ℕ → Type 0
 IsValue owned m key bytes =
     IsSomeAnd (map_at owned.maps m) (λ flat. (key < flat.shape.entries) × (bytes ≡ part_of flat.bytes (element_at flat.shape key) flat.shape.value_size))
 
+-- An element's value is so long, and it is in the bytes where they have its length; else they are as they were.
+abbrev pub IsValueIn : TenantPart → ℕ → ℕ → ℕ → List ℕ → List ℕ → Type 0
+IsValueIn owned m key size old new =
+    (value : List ℕ) × IsValue owned m key value × (size ≡ length value) × (new ≡ (if length value == length old then value else old))
+
 -- the tenant has a number for a new map, and the shape is within the limits
 pub record FitsNewMap (owned : TenantPart) (shape : Shape) : Type 0 where
   pub numbered : IsSome (free_number owned)

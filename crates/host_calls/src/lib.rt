@@ -14,7 +14,7 @@ mod update;
 pub use begin::host_begin;
 pub use create::host_create_map;
 pub use load::decode_and_verify;
-pub use lookup::host_lookup;
+pub use lookup::{host_lookup, host_lookup_into};
 pub use shapes::host_shapes;
 pub use sharing::{host_set, host_unmerge};
 pub use update::host_update;

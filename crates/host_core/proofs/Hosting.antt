@@ -16,10 +16,12 @@ use Rattle.page_table.specs.State.{MemoryState, have_of}
 use Rattle.host_types.specs.declared.event.Event.{Event}
 use Rattle.host_types.specs.declared.event.Event.TheVariants.{CreateMap, Load, Begin, Step, Visit, HostUpdate, HostLookup, Set, Unmerge, Counters, Unload, DropMap}
 use Rattle.host_core.specs.declared.reply.Reply.{Reply}
+use Rattle.host_core.specs.declared.tenant_event.TenantEvent.{TenantEvent}
+use Rattle.host_core.specs.declared.tenant_event.TenantEvent.TheVariants as tenant_event
 use Rattle.host_core.specs.declared.reply.Reply.TheVariants.{Visited as WasVisited, Done, Counters as AreCounters, Refused}
 use Rattle.host_core.specs.World.{System, all_maps, have_in, IsCovered}
 use Rattle.host_core.specs.Happens.{Happens, IsPromised, IsPromisedOf, SetHappens, UnmergeHappens, AllHappen, StepsHappen, changed_system}
-use Rattle.host_core.specs.HostView.{TenantView, HostView, StandsForTenant, StandsForMemory, StandsForSystem, IsKept, IsServed, HasMadeSteps, reply_of}
+use Rattle.host_core.specs.HostView.{TenantView, HostView, StandsForTenant, StandsForMemory, StandsForSystem, IsKept, IsServed, IsAnswered, HasMadeSteps, event_of, reply_of}
 use Rattle.host_types.specs.Events.{tenant_of}
 use Rattle.page_table.specs.Reads.{ReadsAs}
 use Rattle.host_core.proofs.Joined.{AllHappen-join}
@@ -165,6 +167,17 @@ no_tenant (Set option value) t x named missing = absurd (cc)
 no_tenant Unmerge t x named missing = absurd (cc)
 no_tenant Counters t x named missing = absurd (cc)
 
+-- the tenant that an event of a tenant names
+pub tenant_of-event_of : (t : ℕ) (event : TenantEvent) → tenant_of (event_of t event) ≡ Some t
+tenant_of-event_of t (tenant_event.CreateMap value_size entries mergeable) = refl
+tenant_of-event_of t (tenant_event.Load text context_size) = refl
+tenant_of-event_of t (tenant_event.Begin k context) = refl
+tenant_of-event_of t tenant_event.Step = refl
+tenant_of-event_of t (tenant_event.Update m key value) = refl
+tenant_of-event_of t (tenant_event.Lookup m key) = refl
+tenant_of-event_of t (tenant_event.Unload k) = refl
+tenant_of-event_of t (tenant_event.DropMap m) = refl
+
 -- an event of no tenant
 pub hosts-no_tenant : (views : List TenantView) (memory : MemoryState) (t : ℕ) (event : Event) → tenant_of event ≡ Some t → slice_get views t ≡ None
     → Hosts (record { tenants = views; memory = memory }) event (Refused fault.BadTenant) (record { tenants = views; memory = memory })
@@ -178,6 +191,29 @@ pub hosts-covered : (old new : HostView) (event : Event) (reply : Reply) → Hos
 hosts-covered old new event reply hosts reads x stands =
     let (next, stands', happens, promised) = hosts x stands in
     (next, stands', happens, promised, covered new.memory next reads stands'.memory)
+
+-- an event of which more is known than that it happens
+pub hosts-uncovered : (old new : HostView) (event : Event) (reply : Reply)
+    → ((x : System) → StandsForSystem old x → (next : System) × StandsForSystem new next × Happens x event reply next × IsPromised x event reply next × IsCovered next)
+    → Hosts old event reply new
+hosts-uncovered old new event reply leads x stands =
+    let (next, stands', happens, promised, covers) = leads x stands in
+    (next, stands', happens, promised)
+
+-- what is answered of an event of a tenant that is there, and that changes nothing
+pub hosts-answered : (views : List TenantView) (memory : MemoryState) (t : ℕ) (kept : TenantView) (event : Event) (reply : Reply) → slice_get views t ≡ Some kept → IsAnswered t kept memory event reply → ReadsAs memory
+    → (x : System) → StandsForSystem (record { tenants = views; memory = memory }) x → Happens x event reply x × IsPromised x event reply x × IsCovered x
+hosts-answered views memory t kept event reply there answered reads x stands =
+    let (tenant, found, stood) = AllZip-found StandsForTenant views x.world t kept stands.tenants there in
+    let (happens, promised) = answered x tenant found stood stands.memory in
+    (happens, promised, covered memory x reads stands.memory)
+
+-- what is answered of an event whose tenant isn't there
+pub hosts-unanswered : (views : List TenantView) (memory : MemoryState) (t : ℕ) (event : Event) → tenant_of event ≡ Some t → slice_get views t ≡ None → ReadsAs memory
+    → (x : System) → StandsForSystem (record { tenants = views; memory = memory }) x → Happens x event (Refused fault.BadTenant) x × IsPromised x event (Refused fault.BadTenant) x × IsCovered x
+hosts-unanswered views memory t event named missing reads x stands =
+    let (happens, promised) = no_tenant event t x named (AllZip-missing StandsForTenant views x.world t stands.tenants missing) in
+    (happens, promised, covered memory x reads stands.memory)
 
 -- one more event
 pub AllHappen-push : (x next x' : System) (events : List Event) (replies : List Reply) (event : Event) (reply : Reply) → AllHappen x events replies next → Happens next event reply x' → IsPromised next event reply x' → IsCovered x' → AllHappen x (events ++ event ∷ []) (replies ++ reply ∷ []) x'

@@ -1,5 +1,5 @@
 -- What a tenant's events on its maps do to it and to each system that it stands in.
-use Rattle.std.proofs.Common.{◌≡◌, ◌≢◌, ℕ, zero, suc, ◌*◌, ◌==◌, if◌then◌else◌, Bool, true, false, List, [], ◌∷◌, length, slice_index_or, slice_set, ◌⊎◌, inl, inr, Option, Some, None, is_some, is_none, option_map, Result, IsErrAnd, IsNone, IsSome, IfSome, IsSomeAnd, sym, ap, refl, ◌∙◌, subst}
+use Rattle.std.proofs.Common.{◌≡◌, ◌≢◌, ℕ, zero, suc, ◌*◌, ◌==◌, if◌then◌else◌, Bool, true, false, List, [], ◌∷◌, length, slice_index_or, slice_set, ◌⊎◌, inl, inr, Option, Some, None, is_some, is_none, option_map, Result, Ok, Err, IfOk, OnOk, IfErr, OnErr, IsErrAnd, IsNone, IsSome, IfSome, IsSomeAnd, sym, ap, refl, ◌∙◌, subst}
 use Rattle.std.specs.List.{slice_get}
 use Rattle.std.proofs.lemmas.Bool.Decides.{eqb_tells}
 use Rattle.std.proofs.lemmas.List.{length-set}
@@ -24,7 +24,7 @@ use Rattle.map_helpers.specs.Updates.{part_updated, updated_sharing_as}
 use Rattle.verifier.specs.Named.{named_shapes}
 use Rattle.verifier.specs.Verified.{Accepted}
 use Rattle.interp.specs.Fits.{HaveShapes}
-use Rattle.host_calls.specs.Calls.{IsThere, IsValue, lookup_refusal, new_map_refusal, or_bad_tenant, refused_lookup, refused_new_map, refused_update, update_refusal}
+use Rattle.host_calls.specs.Calls.{IsThere, IsValue, IsValueIn, lookup_refusal, new_map_refusal, or_bad_tenant, refused_lookup, refused_new_map, refused_update, update_refusal}
 use Rattle.host_types.specs.declared.event.Event.{Event}
 use Rattle.host_types.specs.declared.event.Event.TheVariants.{CreateMap, HostUpdate, HostLookup}
 use Rattle.host_core.specs.declared.reply.Reply.{Reply}
@@ -32,7 +32,7 @@ use Rattle.host_core.specs.declared.reply.Reply.TheVariants.{Map, Done, Value, R
 use Rattle.host_core.specs.declared.tenant.OpenRun.{OpenRun as KeptRun}
 use Rattle.host_core.specs.World.{OpenRun, Tenant, System, pins_of, owned_by, have_in}
 use Rattle.host_core.specs.Happens.{CreateHappens, Happens, IsPromised, LookupHappens, RefusedOr, UpdateHappens, changed_system, create_refusal, host_update_refusal, unless_busy}
-use Rattle.host_core.specs.HostView.{TenantView, reply_of, EachProgram, StandsForAnyRun, StandsForTenant, StandsForMemory, IsKept, IsServed}
+use Rattle.host_core.specs.HostView.{TenantView, reply_of, EachProgram, StandsForAnyRun, StandsForTenant, StandsForMemory, IsKept, IsServed, IsAnswered, IsCopied}
 use Rattle.host_core.proofs.Worlds.{changed_system-same, OfTenant-there}
 use Rattle.host_core.proofs.Memories.{reserve-idle, owned-idle}
 use Rattle.host_core.proofs.Systems.{part_stands, have_stands, changed_stands}
@@ -336,22 +336,38 @@ update-busy t old memory m key value busy =
     ))
 
 -- a value that is read
+pub lookup-is : (t : ℕ) (old : TenantView) (memory : MemoryState) (m key : ℕ) (bytes : List ℕ) → refused_lookup memory t m key ≡ None → IsValue (part memory t) m key bytes
+    → IsAnswered t old memory (HostLookup t m key) (Value bytes)
+lookup-is t old memory m key bytes allowed value x tenant there stands holds =
+    let none = element-refusal old memory x t tenant there stands holds m key None allowed in
+    let here = subst (λ o. IsValue o m key bytes) (part_stands memory x t tenant holds there) value in
+    (OfTenant-there x t (Value bytes) x _ tenant there (refused-none x x (Value bytes) (lookup_refusal (owned_by x.sharing t tenant) m key) (LookupHappens x t tenant m key (Value bytes) x) none (inr (bytes, here, (refl, refl)))), tt)
+
 pub lookup-answered : (t : ℕ) (old : TenantView) (memory : MemoryState) (m key : ℕ) (bytes : List ℕ) → refused_lookup memory t m key ≡ None → IsValue (part memory t) m key bytes
     → IsServed t old memory (HostLookup t m key) (Value bytes) old memory
 lookup-answered t old memory m key bytes allowed value =
-    served-same t old memory (HostLookup t m key) (Value bytes) (λ x tenant there stands holds.
-    let none = element-refusal old memory x t tenant there stands holds m key None allowed in
-    let here = subst (λ o. IsValue o m key bytes) (part_stands memory x t tenant holds there) value in
-    (OfTenant-there x t (Value bytes) x _ tenant there (refused-none x x (Value bytes) (lookup_refusal (owned_by x.sharing t tenant) m key) (LookupHappens x t tenant m key (Value bytes) x) none (inr (bytes, here, (refl, refl)))), tt))
+    served-same t old memory (HostLookup t m key) (Value bytes) (lookup-is t old memory m key bytes allowed value)
 
 -- a value that isn't read
+pub lookup-is_not : (t : ℕ) (old : TenantView) (memory : MemoryState) (m key : ℕ) (f : Fault) → refused_lookup memory t m key ≡ Some f → IsAnswered t old memory (HostLookup t m key) (Refused f)
+lookup-is_not t old memory m key f refuses x tenant there stands holds =
+    let first = element-refusal old memory x t tenant there stands holds m key (Some f) refuses in
+    (OfTenant-there x t (Refused f) x _ tenant there (refused-some x f (lookup_refusal (owned_by x.sharing t tenant) m key) (LookupHappens x t tenant m key (Refused f) x) first), tt)
+
 pub lookup-refused : (t : ℕ) (old : TenantView) (memory : MemoryState) (m key : ℕ) (f : Fault) → (refused_lookup memory t m key ≡ Some f) ⊎ ((f ≡ OutOfMemory) × (refused_lookup memory t m key ≡ None))
     → IsServed t old memory (HostLookup t m key) (Refused f) old memory
 lookup-refused t old memory m key f (inl refuses) =
-    served-same t old memory (HostLookup t m key) (Refused f) (λ x tenant there stands holds.
-    let first = element-refusal old memory x t tenant there stands holds m key (Some f) refuses in
-    (OfTenant-there x t (Refused f) x _ tenant there (refused-some x f (lookup_refusal (owned_by x.sharing t tenant) m key) (LookupHappens x t tenant m key (Refused f) x) first), tt))
+    served-same t old memory (HostLookup t m key) (Refused f) (lookup-is_not t old memory m key f refuses)
 lookup-refused t old memory m key f (inr (lacks, allowed)) =
     served-same t old memory (HostLookup t m key) (Refused f) (λ x tenant there stands holds.
     let none = element-refusal old memory x t tenant there stands holds m key None allowed in
     (OfTenant-there x t (Refused f) x _ tenant there (refused-none x x (Refused f) (lookup_refusal (owned_by x.sharing t tenant) m key) (LookupHappens x t tenant m key (Refused f) x) none (inl (ap Refused lacks, refl))), tt))
+
+-- what a lookup answers that copies the value
+pub lookup-copied : (t : ℕ) (old : TenantView) (memory : MemoryState) (m key : ℕ) (result : Result ℕ Fault) (bytes became : List ℕ) → OnOk result (refused_lookup memory t m key ≡ None)
+    → IfOk result (λ size. IsValueIn (part memory t) m key size bytes became) → IfErr result (λ f. refused_lookup memory t m key ≡ Some f) → OnErr result (became ≡ bytes)
+    → (reply : Reply) × IsCopied reply result bytes became × IsAnswered t old memory (HostLookup t m key) reply
+lookup-copied t old memory m key (Ok size) bytes became allowed value refused kept =
+    let (read, is_value, sized, is) = value in
+    (Value read, (sized, is), lookup-is t old memory m key read allowed is_value)
+lookup-copied t old memory m key (Err f) bytes became allowed value refused kept = (Refused f, (refl, kept), lookup-is_not t old memory m key f refused)

@@ -1,5 +1,5 @@
 -- What a host keeps, and which systems it stands for.
-use Rattle.std.specs.Prelude.{◌≡◌, ℕ, suc, ◌+◌, Bool, List, [], ◌∷◌, length, map, slice_get, option_map, IfSome, Option, Some, None, Result, Ok, Err}
+use Rattle.std.specs.Prelude.{◌≡◌, ◌==◌, ℕ, suc, ◌+◌, Bool, if◌then◌else◌, List, [], ◌∷◌, length, map, slice_get, option_map, IfSome, Option, Some, None, Result, Ok, Err}
 use Rattle.std.specs.List.{AllZip, All}
 use Rattle.host_types.specs.declared.fault.Fault.{Fault}
 use Rattle.host_types.specs.Sharing.{Sharing}
@@ -12,7 +12,9 @@ use Rattle.interp.specs.StandsFor.{StandsFor}
 use Rattle.host_types.specs.declared.event.Event.{Event}
 use Rattle.host_types.specs.declared.event.Event.TheVariants.{CreateMap, Load, Begin, Step, HostUpdate, HostLookup, Unload, DropMap}
 use Rattle.host_core.specs.declared.reply.Reply.{Reply}
-use Rattle.host_core.specs.declared.reply.Reply.TheVariants.{Refused}
+use Rattle.host_core.specs.declared.reply.Reply.TheVariants.{Value, Refused}
+use Rattle.host_core.specs.declared.tenant_event.TenantEvent.{TenantEvent}
+use Rattle.host_core.specs.declared.tenant_event.TenantEvent.TheVariants as tenant_event
 use Rattle.host_core.specs.declared.tenant.OpenRun.{OpenRun as KeptRun}
 use Rattle.host_core.specs.World.{OpenRun, Tenant, World, System, IsTenant, all_maps, names_there, owned_by}
 use Rattle.host_core.specs.Happens.{Happens, IsPromised, StepsHappen, changed_system}
@@ -88,6 +90,31 @@ pub record StandsForSystem (view : HostView) (x : System) : Type 0 where
 abbrev pub reply_of : Result Reply Fault → Reply
 reply_of (Ok reply) = reply
 reply_of (Err fault) = Refused fault
+
+-- the event of a host that an event of the tenant t is
+abbrev pub event_of : ℕ → TenantEvent → Event
+event_of t (tenant_event.CreateMap value_size entries mergeable) = CreateMap t value_size entries mergeable
+event_of t (tenant_event.Load text context_size) = Load t text.now context_size
+event_of t (tenant_event.Begin k context) = Begin t k context.now
+event_of t tenant_event.Step = Step t
+event_of t (tenant_event.Update m key value) = HostUpdate t m key value.now
+event_of t (tenant_event.Lookup m key) = HostLookup t m key
+event_of t (tenant_event.Unload k) = Unload t k
+event_of t (tenant_event.DropMap m) = DropMap t m
+
+-- What a lookup returns that copies the value, and what becomes of the bytes: the value's length and, where they have it, the
+-- value, or the refusal and the bytes as they were.
+abbrev pub IsCopied : Reply → Result ℕ Fault → List ℕ → List ℕ → Type 0
+IsCopied (Value bytes) (Ok size) old new = (size ≡ length bytes) × (new ≡ (if length bytes == length old then bytes else old))
+IsCopied (Refused fault) (Err refused) old new = (refused ≡ fault) × (new ≡ old)
+IsCopied reply result old new = ⊥
+
+-- An event of a tenant was answered, and changed nothing: in each system for which the memory stands and in which the tenant
+-- stands for the one with the number, the event happens and keeps the promise.
+abbrev pub IsAnswered : ℕ → TenantView → MemoryState → Event → Reply → Type 0
+IsAnswered t kept memory event reply =
+    (x : System) (tenant : Tenant) → slice_get x.world t ≡ Some tenant → StandsForTenant kept tenant → StandsForMemory memory x
+    → Happens x event reply x × IsPromised x event reply x
 
 -- An event of a tenant was served: in each system for which the memory stood and in which the tenant stood
 -- for the one with the number, the event happens, keeps the promise, and leaves a tenant there and

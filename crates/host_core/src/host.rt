@@ -1,4 +1,4 @@
-ghost use Rattle.std.specs.Prelude.{◌≡◌, ◌≤◌, ◌↔◌, ◌⊎◌, ◌*◌, IsSome, IsTrue, None, IfOk, OnOk, IfErr, OnErr, option_map};
+ghost use Rattle.std.specs.Prelude.{◌≡◌, ◌≢◌, ◌≤◌, ◌↔◌, ◌⊎◌, ◌*◌, IsSome, IsTrue, None, IfOk, OnOk, IfErr, OnErr, option_map};
 ghost use Rattle.host_types.specs.Memory.{map_at};
 ghost use Rattle.page_table.specs.State.{part};
 ghost use Rattle.host_types.specs.OptionTable.{AreOptions};
@@ -6,12 +6,14 @@ ghost use Rattle.page_table.specs.Changes.{RefusesMemory};
 ghost use Rattle.page_table.specs.Limits.{AreLimits};
 ghost use Rattle.host_core.specs.World.{System, IsCovered, FoundIsOpen, new_system};
 ghost use Rattle.host_core.specs.Happens.{Happens, IsPromised, AllHappen, StepsHappen, SetHappens, UnmergeHappens, JoinHappens, SplitHappens};
-ghost use Rattle.host_core.specs.HostView.{StandsForSystem, reply_of};
-ghost use Rattle.host_types.specs.Events.{tenant_of};
-ghost use Rattle.host_types.specs.declared.event.Event.TheVariants.{Begin, HostUpdate, Load, Step};
+ghost use Rattle.host_core.specs.HostView.{StandsForSystem, IsCopied, event_of, reply_of};
+ghost use Rattle.host_types.specs.declared.fault.Fault.TheVariants.{OutOfMemory};
+ghost use Rattle.host_types.specs.declared.event.Event.TheVariants.{CreateMap, Load, Begin, HostUpdate, HostLookup, Unload, DropMap, Visit};
+ghost use Rattle.host_core.specs.declared.reply.Reply.{Reply as KnownReply};
 
 use crate::reply::Reply;
 use crate::tenant::Tenant;
+use crate::tenant_event::TenantEvent;
 use host_calls::{host_set, host_unmerge};
 use host_types::{Event, Fault, MapNo, Opt, Options, Shape};
 use ksm_counters::counters;
@@ -72,7 +74,7 @@ impl Host {
             × Happens x event.now result next × IsPromised x event.now result next × IsCovered next }
     {
         let reply = match event {
-            Event::Step { tenant } => self.step(*tenant),
+            Event::Step { tenant } => self.serve_tenant(*tenant, TenantEvent::Step),
             _ => self.serve(event),
         };
         self.memory.facts();
@@ -87,7 +89,7 @@ impl Host {
             → (next : System) × StandsForSystem self.new next
             × Happens x (Begin tenant program context.now) result next × IsPromised x (Begin tenant program context.now) result next × IsCovered next }
     {
-        let reply = self.begin_run(tenant, program, context);
+        let reply = self.serve_tenant(tenant, TenantEvent::Begin { program, context });
         self.memory.facts();
         reply
     }
@@ -99,7 +101,7 @@ impl Host {
             → (next : System) × StandsForSystem self.new next
             × Happens x (Load tenant text.now context_size) result next × IsPromised x (Load tenant text.now context_size) result next × IsCovered next }
     {
-        let reply = self.load_text(tenant, text, context_size);
+        let reply = self.serve_tenant(tenant, TenantEvent::Load { text, context_size });
         self.memory.facts();
         reply
     }
@@ -110,9 +112,25 @@ impl Host {
             → (next : System) × StandsForSystem self.new next
             × Happens x (HostUpdate tenant map key value.now) result next × IsPromised x (HostUpdate tenant map key value.now) result next × IsCovered next }
     {
-        let reply = self.update_value(tenant, map, key, value);
+        let reply = self.serve_tenant(tenant, TenantEvent::Update { map, key, value });
         self.memory.facts();
         reply
+    }
+
+    /// Copies the value of an element of a tenant's map to bytes of its length, and returns that length: what `apply` replies to
+    /// `Event::HostLookup`, without memory for the value. Bytes of another length stay as they are, and so do all where it is refused.
+    pub fn lookup(&self, tenant: u32, map: MapNo, key: u32, value: &mut [u8]) -> Result<u32, Fault>
+        ensures copied { (reply : KnownReply) × IsCopied reply result value.old value.new
+            × ((x : System) → StandsForSystem self.now x
+            → Happens x (HostLookup tenant map key) reply x × IsPromised x (HostLookup tenant map key) reply x × IsCovered x) }
+        ensures memory { IfErr result (λ fault. fault ≢ OutOfMemory) }
+    {
+        self.memory.facts();
+        let index = tenant as usize;
+        if index >= self.tenants.len() {
+            return Err(Fault::BadTenant);
+        }
+        self.tenants[index].copy_value(&self.memory, tenant, map, key, value)
     }
 
     /// Lets events happen in their order, and gives the reply to each. Room for the replies is
@@ -158,59 +176,6 @@ impl Host {
         self.memory.shape(tenant, map)
     }
 
-    /// Lets a step of a tenant's open run happen, without the way through all other events: most events are steps.
-    fn step(&mut self, tenant: u32) -> Reply
-        ensures { (x : System) → StandsForSystem self.old x
-            → (next : System) × StandsForSystem self.new next
-            × Happens x (Step tenant) result next × IsPromised x (Step tenant) result next }
-    {
-        let index = tenant as usize;
-        if index >= self.tenants.len() {
-            return Reply::Refused(Fault::BadTenant);
-        }
-        self.tenants[index].step(&mut self.memory, tenant)
-    }
-
-    /// Lets a run open, without the way through all other events.
-    #[inline(always)]
-    fn begin_run(&mut self, tenant: u32, program: u32, context: &[u8]) -> Reply
-        ensures { (x : System) → StandsForSystem self.old x
-            → (next : System) × StandsForSystem self.new next
-            × Happens x (Begin tenant program context.now) result next × IsPromised x (Begin tenant program context.now) result next }
-    {
-        let index = tenant as usize;
-        if index >= self.tenants.len() {
-            return Reply::Refused(Fault::BadTenant);
-        }
-        self.tenants[index].begin_run(&mut self.memory, tenant, program, context)
-    }
-
-    /// Lets a text be loaded, without the way through all other events.
-    fn load_text(&mut self, tenant: u32, text: &[u8], context_size: u32) -> Reply
-        ensures { (x : System) → StandsForSystem self.old x
-            → (next : System) × StandsForSystem self.new next
-            × Happens x (Load tenant text.now context_size) result next × IsPromised x (Load tenant text.now context_size) result next }
-    {
-        let index = tenant as usize;
-        if index >= self.tenants.len() {
-            return Reply::Refused(Fault::BadTenant);
-        }
-        self.tenants[index].load_text(self.alloc, &mut self.memory, tenant, text, context_size)
-    }
-
-    /// Lets a value be written, without the way through all other events.
-    fn update_value(&mut self, tenant: u32, map: MapNo, key: u32, value: &[u8]) -> Reply
-        ensures { (x : System) → StandsForSystem self.old x
-            → (next : System) × StandsForSystem self.new next
-            × Happens x (HostUpdate tenant map key value.now) result next × IsPromised x (HostUpdate tenant map key value.now) result next }
-    {
-        let index = tenant as usize;
-        if index >= self.tenants.len() {
-            return Reply::Refused(Fault::BadTenant);
-        }
-        self.tenants[index].update_value(&mut self.memory, tenant, map, key, value)
-    }
-
     /// Lets any event happen.
     #[inline(never)]
     fn serve(&mut self, event: &Event) -> Reply
@@ -218,24 +183,105 @@ impl Host {
             → (next : System) × StandsForSystem self.new next
             × Happens x event.now result next × IsPromised x event.now result next }
     {
-        match event.tenant() {
-            Some(number) => self.apply_to(number, event),
-            None => self.apply_to_all(event),
+        match event {
+            Event::CreateMap {
+                tenant,
+                value_size,
+                entries,
+                mergeable,
+            } => self.create_map(*tenant, *value_size, *entries, *mergeable),
+            Event::Load {
+                tenant,
+                text,
+                context_size,
+            } => self.load(*tenant, text.as_slice(), *context_size),
+            Event::Begin {
+                tenant,
+                program,
+                context,
+            } => self.begin(*tenant, *program, context.as_slice()),
+            Event::Step { tenant } => self.serve_tenant(*tenant, TenantEvent::Step),
+            Event::HostUpdate {
+                tenant,
+                map,
+                key,
+                value,
+            } => self.update(*tenant, *map, *key, value.as_slice()),
+            Event::HostLookup { tenant, map, key } => self.read(*tenant, *map, *key),
+            Event::Unload { tenant, program } => self.unload(*tenant, *program),
+            Event::DropMap { tenant, map } => self.drop_map(*tenant, *map),
+            Event::Visit => self.visit(),
+            Event::Set { option, value } => into_reply(self.set(*option, *value)),
+            Event::Unmerge => into_reply(self.unmerge()),
+            Event::Counters => Reply::Counters(counters(&self.memory)),
         }
     }
 
-    /// Lets an event of a tenant happen.
-    fn apply_to(&mut self, number: u32, event: &Event) -> Reply
-        requires { tenant_of event.now ≡ Some number }
+    /// Lets an event of a tenant happen. It is part of each of its callers, so that none looks again which event it is.
+    #[inline(always)]
+    fn serve_tenant(&mut self, tenant: u32, event: TenantEvent<'_>) -> Reply
         ensures { (x : System) → StandsForSystem self.old x
             → (next : System) × StandsForSystem self.new next
-            × Happens x event.now result next × IsPromised x event.now result next }
+            × Happens x (event_of tenant event.entry) result next × IsPromised x (event_of tenant event.entry) result next }
     {
-        let index = number as usize;
+        let index = tenant as usize;
         if index >= self.tenants.len() {
             return Reply::Refused(Fault::BadTenant);
         }
-        self.tenants[index].apply(self.alloc, &mut self.memory, number, event)
+        self.tenants[index].serve(self.alloc, &mut self.memory, tenant, event)
+    }
+
+    /// Lets a map be made.
+    fn create_map(&mut self, tenant: u32, value_size: u32, entries: u32, mergeable: bool) -> Reply
+        ensures { (x : System) → StandsForSystem self.old x
+            → (next : System) × StandsForSystem self.new next
+            × Happens x (CreateMap tenant value_size entries mergeable) result next
+            × IsPromised x (CreateMap tenant value_size entries mergeable) result next }
+    {
+        self.serve_tenant(
+            tenant,
+            TenantEvent::CreateMap {
+                value_size,
+                entries,
+                mergeable,
+            },
+        )
+    }
+
+    /// Lets a value be read.
+    fn read(&mut self, tenant: u32, map: MapNo, key: u32) -> Reply
+        ensures { (x : System) → StandsForSystem self.old x
+            → (next : System) × StandsForSystem self.new next
+            × Happens x (HostLookup tenant map key) result next × IsPromised x (HostLookup tenant map key) result next }
+    {
+        self.serve_tenant(tenant, TenantEvent::Lookup { map, key })
+    }
+
+    /// Lets a program be taken away.
+    fn unload(&mut self, tenant: u32, program: u32) -> Reply
+        ensures { (x : System) → StandsForSystem self.old x
+            → (next : System) × StandsForSystem self.new next
+            × Happens x (Unload tenant program) result next × IsPromised x (Unload tenant program) result next }
+    {
+        self.serve_tenant(tenant, TenantEvent::Unload { program })
+    }
+
+    /// Lets a map be taken away.
+    fn drop_map(&mut self, tenant: u32, map: MapNo) -> Reply
+        ensures { (x : System) → StandsForSystem self.old x
+            → (next : System) × StandsForSystem self.new next
+            × Happens x (DropMap tenant map) result next × IsPromised x (DropMap tenant map) result next }
+    {
+        self.serve_tenant(tenant, TenantEvent::DropMap { map })
+    }
+
+    /// Lets the scanner visit a page.
+    fn visit(&mut self) -> Reply
+        ensures { (x : System) → StandsForSystem self.old x
+            → (next : System) × StandsForSystem self.new next
+            × Happens x Visit result next × IsPromised x Visit result next }
+    {
+        Reply::Visited(visit(&mut self.memory))
     }
 
     /// Sets an option of the scanner.
@@ -254,29 +300,6 @@ impl Host {
     {
         host_unmerge(&mut self.memory)?;
         Ok(Reply::Done)
-    }
-
-    /// Lets an event that names no tenant happen.
-    fn apply_to_all(&mut self, event: &Event) -> Reply
-        requires { tenant_of event.now ≡ None }
-        ensures { (x : System) → StandsForSystem self.old x
-            → (next : System) × StandsForSystem self.new next
-            × Happens x event.now result next × IsPromised x event.now result next }
-    {
-        match event {
-            Event::Visit => Reply::Visited(visit(&mut self.memory)),
-            Event::Set { option, value } => into_reply(self.set(*option, *value)),
-            Event::Unmerge => into_reply(self.unmerge()),
-            Event::Counters => Reply::Counters(counters(&self.memory)),
-            Event::CreateMap { .. }
-            | Event::Load { .. }
-            | Event::Begin { .. }
-            | Event::Step { .. }
-            | Event::HostUpdate { .. }
-            | Event::HostLookup { .. }
-            | Event::Unload { .. }
-            | Event::DropMap { .. } => unreachable!(),
-        }
     }
 }
 

@@ -5,6 +5,7 @@
 mod host;
 mod reply;
 mod tenant;
+mod tenant_event;
 
 pub use host::{Host, each_state_begins, into_reply, lists_join};
 pub use host_types::{Bytes, Event};

@@ -5,10 +5,13 @@ ghost use Rattle.host_core.specs.HostView.{names_in};
 
 use crate::host::into_reply;
 use crate::reply::Reply;
+use crate::tenant_event::TenantEvent;
 use admission::{needed, release};
-use host_calls::{decode_and_verify, host_create_map, host_lookup, host_shapes, host_update};
+use host_calls::{
+    decode_and_verify, host_create_map, host_lookup, host_lookup_into, host_shapes, host_update,
+};
 use host_types::limits::MAX_PROGRAMS;
-use host_types::{Event, Fault, MapNo};
+use host_types::{Fault, MapNo};
 use interp::{Need, Run};
 use page_table::Memory;
 use std::alloc::Global;
@@ -64,11 +67,12 @@ impl Model for Tenant {
 }
 
 impl Tenant {
-    ghost use Rattle.std.specs.Prelude.{◌≡◌, Some, IsSome, ◌<◌, ◌≤◌};
+    ghost use Rattle.std.specs.Prelude.{◌≡◌, ◌≢◌, Some, IsSome, IfErr, ◌<◌, ◌≤◌};
+    ghost use Rattle.host_types.specs.declared.fault.Fault.TheVariants.{OutOfMemory};
     ghost use Rattle.host_types.specs.declared.event.Event.TheVariants.{CreateMap, Load, Begin, Step, HostUpdate, HostLookup, Unload, DropMap};
     ghost use Rattle.host_core.specs.World.{new_tenant};
-    ghost use Rattle.host_core.specs.HostView.{StandsForTenant, IsKept, IsServed, HasMadeSteps, HasCounted, reply_of};
-    ghost use Rattle.host_types.specs.Events.{tenant_of};
+    ghost use Rattle.host_core.specs.declared.reply.Reply.{Reply as KnownReply};
+    ghost use Rattle.host_core.specs.HostView.{StandsForTenant, IsKept, IsServed, IsAnswered, IsCopied, HasMadeSteps, HasCounted, event_of, reply_of};
 
     pub(crate) fn new(alloc: Global) -> Tenant
         ensures { StandsForTenant result new_tenant }
@@ -79,62 +83,39 @@ impl Tenant {
         }
     }
 
-    /// Serves an event that names this tenant, the one of the memory with the number.
-    pub(crate) fn apply(
+    /// Serves an event of this tenant, the one of the memory with the number.
+    #[inline(always)]
+    pub(crate) fn serve(
         &mut self,
         alloc: Global,
         memory: &mut Memory,
         number: u32,
-        event: &Event,
+        event: TenantEvent<'_>,
     ) -> Reply
-        requires named { tenant_of event.now ≡ Some number }
         requires kept { IsKept number self.old memory.old }
-        ensures { IsServed number self.old memory.old event.now result self.new memory.new }
+        ensures { IsServed number self.old memory.old (event_of number event.entry) result self.new memory.new }
     {
-        into_reply(self.serve(alloc, memory, number, event))
-    }
-
-    /// Serves an event; a refusal is an error.
-    fn serve(
-        &mut self,
-        alloc: Global,
-        memory: &mut Memory,
-        number: u32,
-        event: &Event,
-    ) -> Result<Reply, Fault>
-        requires named { tenant_of event.now ≡ Some number }
-        requires kept { IsKept number self.old memory.old }
-        ensures { IsServed number self.old memory.old event.now (reply_of result) self.new memory.new }
-    {
-        match event {
-            Event::CreateMap {
+        let served = match event {
+            TenantEvent::CreateMap {
                 value_size,
                 entries,
                 mergeable,
-                ..
-            } => self.create_map(memory, number, *value_size, *entries, *mergeable),
-            Event::Load {
+            } => self.create_map(memory, number, value_size, entries, mergeable),
+            TenantEvent::Load { text, context_size } => self.load(
+                alloc,
+                memory,
+                number,
                 text,
                 context_size,
-                ..
-            } => self.load(alloc, memory, number, text.as_slice(), *context_size),
-            Event::Begin {
-                program,
-                context,
-                ..
-            } => self.begin(memory, number, *program, context.as_slice()),
-            Event::Step { .. } => Ok(self.step(memory, number)),
-            Event::HostUpdate {
-                map,
-                key,
-                value,
-                ..
-            } => self.update(memory, number, *map, *key, value.as_slice()),
-            Event::HostLookup { map, key, .. } => self.lookup(alloc, memory, number, *map, *key),
-            Event::Unload { program, .. } => self.unload(memory, number, *program),
-            Event::DropMap { map, .. } => self.drop_map(memory, number, *map),
-            Event::Visit | Event::Set { .. } | Event::Unmerge | Event::Counters => unreachable!(),
-        }
+            ),
+            TenantEvent::Begin { program, context } => self.begin(memory, number, program, context),
+            TenantEvent::Step => Ok(self.step(memory, number)),
+            TenantEvent::Update { map, key, value } => self.update(memory, number, map, key, value),
+            TenantEvent::Lookup { map, key } => self.lookup(alloc, memory, number, map, key),
+            TenantEvent::Unload { program } => self.unload(memory, number, program),
+            TenantEvent::DropMap { map } => self.drop_map(memory, number, map),
+        };
+        into_reply(served)
     }
 
     /// Makes a map.
@@ -184,51 +165,6 @@ impl Tenant {
         memory.facts();
         self.programs[index] = Some(program);
         Ok(Reply::Program(index as u32))
-    }
-
-    /// Serves the event that loads a program's text.
-    pub(crate) fn load_text(
-        &mut self,
-        alloc: Global,
-        memory: &mut Memory,
-        number: u32,
-        text: &[u8],
-        context_size: u32,
-    ) -> Reply
-        requires kept { IsKept number self.old memory.old }
-        ensures { IsServed number self.old memory.old (Load number text.now context_size) result self.new memory.new }
-    {
-        into_reply(self.load(alloc, memory, number, text, context_size))
-    }
-
-    /// Serves the event that writes a value to a map.
-    pub(crate) fn update_value(
-        &mut self,
-        memory: &mut Memory,
-        number: u32,
-        map: MapNo,
-        key: u32,
-        value: &[u8],
-    ) -> Reply
-        requires kept { IsKept number self.old memory.old }
-        ensures { IsServed number self.old memory.old (HostUpdate number map key value.now) result self.new memory.new }
-    {
-        into_reply(self.update(memory, number, map, key, value))
-    }
-
-    /// Serves the event that opens a run of a program.
-    #[inline(always)]
-    pub(crate) fn begin_run(
-        &mut self,
-        memory: &mut Memory,
-        number: u32,
-        program: u32,
-        context: &[u8],
-    ) -> Reply
-        requires kept { IsKept number self.old memory.old }
-        ensures { IsServed number self.old memory.old (Begin number program context.now) result self.new memory.new }
-    {
-        into_reply(self.begin(memory, number, program, context))
     }
 
     /// Opens a run of a program, with the frames that it may need.
@@ -293,6 +229,23 @@ impl Tenant {
         Ok(Reply::Value(value.into()))
     }
 
+    /// Copies a value of a map to bytes of its length, and returns that length.
+    pub(crate) fn copy_value(
+        &self,
+        memory: &Memory,
+        number: u32,
+        map: MapNo,
+        key: u32,
+        value: &mut [u8],
+    ) -> Result<u32, Fault>
+        requires kept { IsKept number self.now memory.now }
+        ensures copied { (reply : KnownReply) × IsCopied reply result value.old value.new
+            × IsAnswered number self.now memory.now (HostLookup number map key) reply }
+        ensures memory { IfErr result (λ fault. fault ≢ OutOfMemory) }
+    {
+        host_lookup_into(memory, number, map, key, value)
+    }
+
     /// Takes a program from its index.
     fn unload(&mut self, memory: &Memory, number: u32, program: u32) -> Result<Reply, Fault>
         requires kept { IsKept number self.old memory.now }
@@ -331,7 +284,8 @@ impl Tenant {
     }
 
     /// Makes a step of the open run.
-    pub(crate) fn step(&mut self, memory: &mut Memory, number: u32) -> Reply
+    #[inline(always)]
+    fn step(&mut self, memory: &mut Memory, number: u32) -> Reply
         requires kept { IsKept number self.old memory.old }
         ensures { IsServed number self.old memory.old (Step number) result self.new memory.new }
     {

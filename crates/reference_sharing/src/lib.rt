@@ -6,6 +6,7 @@ mod contents;
 mod groups;
 mod pages;
 mod sharing;
+mod visit;
 mod waiting;
 
 pub use pages::page_content;

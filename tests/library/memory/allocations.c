@@ -113,7 +113,10 @@ static void list_of_calls(void)
     AGAIN(bpf_host_begin(&host, 0, 0, value, 8, &refused));
     AGAIN(bpf_host_step(&host, 0, 9, &ended, &run));
     wanted(ended, "the run goes on");
-    AGAIN(bpf_host_lookup(&host, 0, 0, 0, found, sizeof found));
+    before = asked;
+    wanted(bpf_host_lookup(&host, 0, 0, 0, found, sizeof found - 1) == 102 && asked == before, "no room, and memory is taken");
+    wanted(found[0] == 0, "a value without room");
+    wanted(bpf_host_lookup(&host, 0, 0, 0, found, sizeof found) == 0 && asked == before, "a lookup takes memory");
     wanted(memcmp(found, value, sizeof found) == 0, "another value");
     AGAIN(bpf_host_visit(&host, 4, &counters));
     AGAIN(bpf_host_unload(&host, 0, 0));

@@ -7,5 +7,5 @@ use Rattle.host_core.proofs.host.Host.load.Goals as goal
 
 pub returns : goal.returns
 returns c =
-    let reads : ReadsAs c.load_text-reply.new.self.memory = subst (λ (view : HostView). ReadsAs view.memory) c.self.view_is c.facts.ensures in
-    hosts-covered c.args.self.now c.load_text-reply.new.self (Load c.args.tenant c.args.text.now c.args.context_size) c.load_text-reply.result c.load_text-reply.ensures reads
+    let reads : ReadsAs c.serve_tenant-reply.new.self.memory = subst (λ (view : HostView). ReadsAs view.memory) c.self.view_is c.facts.ensures in
+    hosts-covered c.args.self.now c.serve_tenant-reply.new.self (Load c.args.tenant c.args.text.now c.args.context_size) c.serve_tenant-reply.result c.serve_tenant-reply.ensures reads

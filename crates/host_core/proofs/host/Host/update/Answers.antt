@@ -7,5 +7,5 @@ use Rattle.host_core.proofs.host.Host.update.Goals as goal
 
 pub returns : goal.returns
 returns c =
-    let reads : ReadsAs c.update_value-reply.new.self.memory = subst (λ (view : HostView). ReadsAs view.memory) c.self.view_is c.facts.ensures in
-    hosts-covered c.args.self.now c.update_value-reply.new.self (HostUpdate c.args.tenant c.args.map c.args.key c.args.value.now) c.update_value-reply.result c.update_value-reply.ensures reads
+    let reads : ReadsAs c.serve_tenant-reply.new.self.memory = subst (λ (view : HostView). ReadsAs view.memory) c.self.view_is c.facts.ensures in
+    hosts-covered c.args.self.now c.serve_tenant-reply.new.self (HostUpdate c.args.tenant c.args.map c.args.key c.args.value.now) c.serve_tenant-reply.result c.serve_tenant-reply.ensures reads
