@@ -4,7 +4,7 @@ use Rattle.host_types.specs.declared.fault.Fault.{Fault}
 use Rattle.host_types.specs.declared.fault.Fault.TheVariants.{NoMap}
 use Rattle.host_types.specs.Memory.{map_at}
 use Rattle.host_types.specs.Pages.{map_index_of}
-use Rattle.host_types.specs.Unmerging.{with_option, unmerged}
+use Rattle.host_types.specs.Unmerging.{with_option}
 use Rattle.host_types.specs.Tenant.{TenantPart}
 use Rattle.host_types.specs.Visits.{visit, dropped}
 use Rattle.host_types.specs.declared.options.Opt.{Opt}
@@ -47,11 +47,6 @@ IsUnchanged old new = new ≡ old
 abbrev pub HasSet : Opt → ℕ → MemoryState → MemoryState → Type 0
 HasSet option value old new =
     new ≡ record old { sharing = record old.sharing { options = with_option old.sharing.options option value } }
-
--- everything was unmerged, and no map changed
-pub record HasUnmerged (old new : MemoryState) : Type 0 where
-  pub sharing : new.sharing ≡ unmerged old.sharing
-  pub maps : new.maps ≡ old.maps
 
 -- A map of a tenant was made: its pages were never visited, and may be merged or not; nothing else changed of which
 -- pages share frames, and no other tenant's part.
