@@ -13,7 +13,7 @@ ghost use Rattle.frame_arena.specs.Pages.{page_at};
 ghost use Rattle.page_table.specs.Limits.{AreLimits, page_count, shape_of};
 ghost use Rattle.page_table.specs.State.{MemoryState, part, map_bytes, bytes_of_map, free_number, new_memory, unreserved_tenant, free_of, have_of, frame_at};
 ghost use Rattle.page_table.specs.Reads.{ReadsAs};
-ghost use Rattle.page_table.specs.Changes.{IsNotWaiting, HadFingerprint, contents_now, open_frame, partner_index, zero_map, part_written, part_created, AreKept, MayChange, MayMerge, OtherTenantsUnchanged, AreMapsKeptBut, KeepsSettings, with_pins, with_reserve, with_run, without_run, with_record, opened, ended, IsPageOf, IsOwn, with_new_pages, pages_of_map, FitsMap, RefusesMap, RefusesDrop, RefusesMemory};
+ghost use Rattle.page_table.specs.Changes.{IsNotWaiting, HadFingerprint, contents_now, open_frame, partner_index, part_written, AreKept, MayChange, MayMerge, OtherTenantsUnchanged, AreMapsKeptBut, KeepsSettings, HasMap, with_pins, with_reserve, with_run, without_run, with_record, opened, ended, IsPageOf, IsOwn, pages_of_map, FitsMap, RefusesMap, RefusesDrop, RefusesMemory};
 ghost use Rattle.page_table.specs.declared.entry.Entry.{Entry};
 ghost use Rattle.page_table.specs.Table.{state_of, states_of, contents_of, groups_of, used_by, entry_at};
 
@@ -263,19 +263,8 @@ impl Memory {
     ) -> Result<MapNo, Fault>
         ensures fits { OnOk result (FitsMap self.old tenant (shape_of value_size entries)) }
         ensures number { IfOk result (λ m. free_number (part self.old tenant) ≡ Some m) }
-        ensures created { IfOk result (λ m.
-            part self.new tenant ≡ part_created (part self.old tenant) m (shape_of value_size entries)) }
-        ensures there { IfOk result (λ m.
-            map_at (part self.new tenant).maps m ≡ Some (zero_map (shape_of value_size entries))) }
-        ensures other_maps { IfOk result (λ m.
-            AreMapsKeptBut m (part self.old tenant) (part self.new tenant)) }
-        ensures others { OtherTenantsUnchanged tenant self.old self.new }
-        ensures sharing { IfOk result (λ m. self.new.sharing ≡ with_new_pages self.old.sharing
-            (map_index_of tenant m * 256) (page_count (shape_of value_size entries)) mergeable) }
-        ensures free { OnOk result
-            (free_of self.new + page_count (shape_of value_size entries) ≡ free_of self.old) }
-        ensures settings { KeepsSettings self.old self.new }
-
+        ensures made { IfOk result (λ m.
+            HasMap tenant m (shape_of value_size entries) mergeable self.old self.new) }
         ensures err { IfErr result (RefusesMap self.old tenant (shape_of value_size entries)) }
         ensures unchanged { OnErr result (self.new ≡ self.old) }
     {
@@ -318,14 +307,7 @@ impl Memory {
         requires none { map_at (part self.old tenant).maps number ≡ None }
         requires shape { IsShape shape }
         requires room { page_count shape ≤ have_of self.old }
-        ensures created { part self.new tenant ≡ part_created (part self.old tenant) number shape }
-        ensures there { map_at (part self.new tenant).maps number ≡ Some (zero_map shape) }
-        ensures other_maps { AreMapsKeptBut number (part self.old tenant) (part self.new tenant) }
-        ensures others { OtherTenantsUnchanged tenant self.old self.new }
-        ensures sharing { self.new.sharing ≡
-            with_new_pages self.old.sharing (map_index_of tenant number * 256) (page_count shape) mergeable }
-        ensures free { free_of self.new + page_count shape ≡ free_of self.old }
-        ensures settings { KeepsSettings self.old self.new }
+        ensures { HasMap tenant number shape mergeable self.old self.new }
     {
         let index = map_index(tenant, number);
         add_pages(&mut self.table, index * MAX_PAGES, pages(&shape), mergeable);
