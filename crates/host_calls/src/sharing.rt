@@ -1,8 +1,9 @@
-ghost use Rattle.std.specs.Prelude.{◌≡◌, ◌+◌, ◌≤◌, OnOk, IfErr, OnErr};
+ghost use Rattle.std.specs.Prelude.{◌≡◌, OnOk, IfErr, OnErr};
 ghost use Rattle.host_types.specs.OptionTable.{MayBe};
-ghost use Rattle.host_types.specs.Unmerging.{with_option, MaySet, RefusesSet, unmerged, unmerge_need, RefusesUnmerge, SharesNothing};
+ghost use Rattle.host_types.specs.Unmerging.{with_option, MaySet, RefusesSet, RefusesUnmerge};
 ghost use Rattle.page_table.specs.State.{part, have_of};
-ghost use Rattle.page_table.specs.Changes.{AreKept, KeepsSettings};
+ghost use Rattle.page_table.specs.Changes.{AreKept};
+ghost use Rattle.scanner.specs.Unmerged.{HasUnmerged};
 
 use host_types::{Fault, Opt};
 use page_table::Memory;
@@ -31,16 +32,9 @@ pub fn host_set(memory: &mut Memory, option: Opt, value: u32) -> Result<(), Faul
 /// The one refusal is 31, just where the frames that this takes are more than `have()`; it gives both
 /// numbers, and changes nothing.
 pub fn host_unmerge(memory: &mut Memory) -> Result<(), Fault>
-    ensures enough { OnOk result (unmerge_need memory.old.sharing ≤ have_of memory.old) }
-    ensures unmerged { OnOk result (memory.new.sharing ≡ unmerged memory.old.sharing) }
-    ensures none { OnOk result (SharesNothing memory.new.sharing) }
-    ensures have { OnOk result (have_of memory.new + unmerge_need memory.old.sharing ≡ have_of memory.old) }
-    ensures maps { memory.new.maps ≡ memory.old.maps }
-    ensures kept { AreKept memory.old memory.new }
-    ensures settings { KeepsSettings memory.old memory.new }
+    ensures unmerged { OnOk result (HasUnmerged memory.old memory.new) }
     ensures refused { IfErr result (RefusesUnmerge memory.old.sharing (have_of memory.old)) }
     ensures unchanged { OnErr result (memory.new ≡ memory.old) }
 {
-    memory.facts();
     scanner::unmerge_all(memory)
 }

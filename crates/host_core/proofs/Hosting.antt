@@ -13,6 +13,7 @@ use Rattle.host_types.specs.Visits.{contents_in, visit}
 use Rattle.ksm_counters.specs.Counters.{counters_of}
 use Rattle.page_table.specs.Changes.{AreKept, KeepsSettings}
 use Rattle.page_table.specs.State.{MemoryState, have_of}
+use Rattle.scanner.specs.Unmerged.{HasUnmerged}
 use Rattle.host_types.specs.declared.event.Event.{Event}
 use Rattle.host_types.specs.declared.event.Event.TheVariants.{CreateMap, Load, Begin, Step, Visit, HostUpdate, HostLookup, Set, Unmerge, Counters, Unload, DropMap}
 use Rattle.host_core.specs.declared.reply.Reply.{Reply}
@@ -98,13 +99,13 @@ abbrev pub Unmerges : Reply → System → System → Type 0
 Unmerges reply x next = UnmergeHappens x reply next
 
 -- pages that no longer share frames
-pub leads-unmerge : (tenants : List TenantView) (before after : MemoryState) → unmerge_need before.sharing ≤ have_of before → after.sharing ≡ unmerged before.sharing → KeepsSettings before after → AreKept before after → after.maps ≡ before.maps
+pub leads-unmerge : (tenants : List TenantView) (before after : MemoryState) → HasUnmerged before after
     → Leads (record { tenants = tenants; memory = before }) (Unmerges Done) (record { tenants = tenants; memory = after })
-leads-unmerge tenants before after enough is kept parts maps x stands =
+leads-unmerge tenants before after did x stands =
     let have = have_stands before x stands.memory in
-    let needed : unmerge_need x.sharing ≤ have_in x = subst (λ s. unmerge_need s ≤ have_in x) stands.memory.sharing (subst (λ n. unmerge_need before.sharing ≤ n) have enough) in
-    let sharing : after.sharing ≡ unmerged x.sharing = is ∙ ap unmerged stands.memory.sharing in
-    (record x { sharing = after.sharing }, shared tenants before after x stands kept parts maps, inr (needed, (refl, ap (λ s. record x { sharing = s }) sharing)))
+    let needed : unmerge_need x.sharing ≤ have_in x = subst (λ s. unmerge_need s ≤ have_in x) stands.memory.sharing (subst (λ n. unmerge_need before.sharing ≤ n) have did.enough) in
+    let sharing : after.sharing ≡ unmerged x.sharing = did.sharing ∙ ap unmerged stands.memory.sharing in
+    (record x { sharing = after.sharing }, shared tenants before after x stands did.settings did.kept did.maps, inr (needed, (refl, ap (λ s. record x { sharing = s }) sharing)))
 
 -- too few frames for that
 unmerge_refused : (x : System) (sharing : Sharing) (have : ℕ) (refusal : Fault) → sharing ≡ x.sharing → have ≡ have_in x → RefusesUnmerge sharing have refusal → UnmergeHappens x (Refused refusal) x

@@ -1,6 +1,7 @@
 -- New pages at indices one after another, and what a memory says of a new map.
-use Rattle.page_table.proofs.Base.{◌≡◌, ◌≢◌, ◌∙◌, ℕ, zero, suc, ◌+◌, ◌-◌, ◌*◌, ◌<◌, ◌≤◌, List, [], ◌∷◌, ◌++◌, length, take, replicate, slice_index_or, slice_set, Option, Some, None, Bool, option_map, refl, sym, ap, arith, nat_le, nat_lt, ◌&&◌, if◌then◌else◌, concat, get_or-set_same, get_or-set_other, length-replicate, append-nil, take-append-drop, replicate-append-replicate, take-replicate, drop-replicate, length-map, nat_tests, get_or-replicate, ext_get_or, Pass, Shape, part_of, with_part, map_at, map_index_of, zero_page, IsShape, byte_len_of, new_page, length-with_part, replicate-zero_page, length-zero_page, Entry, Tenant, page_count, MemoryState, part, free_of, have_of, zero_map, part_created, OtherTenantsUnchanged, AreMapsKeptBut, KeepsSettings, with_new_pages, view_of, IsMemory, TableState, groups_of, used_by, state_of, states_of, maps_of, flat_of, ArePages, ArePagesOf, contents_of, entry_content}
+use Rattle.page_table.proofs.Base.{◌≡◌, ◌≢◌, ◌∙◌, ℕ, zero, suc, ◌+◌, ◌-◌, ◌*◌, ◌<◌, ◌≤◌, List, [], ◌∷◌, ◌++◌, length, take, replicate, slice_index_or, slice_set, Option, Some, None, Bool, option_map, refl, sym, ap, arith, nat_le, nat_lt, ◌&&◌, if◌then◌else◌, concat, get_or-set_same, get_or-set_other, length-replicate, append-nil, take-append-drop, replicate-append-replicate, take-replicate, drop-replicate, length-map, nat_tests, get_or-replicate, ext_get_or, Pass, Shape, part_of, with_part, map_at, map_index_of, zero_page, IsShape, byte_len_of, new_page, length-with_part, replicate-zero_page, length-zero_page, Entry, Tenant, page_count, MemoryState, part, have_of, zero_map, part_created, with_new_pages, view_of, IsMemory, TableState, groups_of, used_by, state_of, states_of, maps_of, flat_of, ArePages, ArePagesOf, contents_of, entry_content}
 use Rattle.std.proofs.Common.{length-set}
+use Rattle.page_table.specs.Changes.{HasMap}
 use Rattle.page_table.proofs.Maps.{map_at-maps_of, part-at, written-at, part-kept, lies-apart}
 use Rattle.page_table.proofs.Reading.{content_in, few_pages, map_at-part}
 use Rattle.page_table.proofs.Entries.{free_is}
@@ -93,16 +94,6 @@ module _ (table new : TableState) (shapes : List (Option Shape)) (tenants : List
 pub shape_none : (shapes : List (Option Shape)) (contents : List (List ℕ)) (t m : ℕ) → m < 8 → map_at (part_of (maps_of shapes contents) (t * 8) 8) m ≡ None → slice_index_or shapes (map_index_of t m) None ≡ None
 shape_none shapes contents t m h1 h2 = grind (arith, nat_tests, map_at-part, map_at-maps_of)
 
--- a new map was made, and nothing else has changed
-pub record Creates (old new : MemoryState) (tenant m : ℕ) (shape : Shape) (mergeable : Bool) : Type 0 where
-  pub created : part new tenant ≡ part_created (part old tenant) m shape
-  pub there : map_at (part new tenant).maps m ≡ Some (zero_map shape)
-  pub other_maps : AreMapsKeptBut m (part old tenant) (part new tenant)
-  pub others : OtherTenantsUnchanged tenant old new
-  pub sharing : new.sharing ≡ with_new_pages old.sharing (map_index_of tenant m * 256) (page_count shape) mergeable
-  pub free : free_of new + page_count shape ≡ free_of old
-  pub settings : KeepsSettings old new
-
 module _ (table new : TableState) (shapes : List (Option Shape)) (tenants : List Tenant) (pass : Pass) (reserved tenant m : ℕ) (shape : Shape) (mergeable : Bool)
     (is : IsMemory table shapes tenants reserved) (small : m < 8) (inside : tenant < length tenants) (empty : slice_index_or shapes (map_index_of tenant m) None ≡ None) (shaped : IsShape shape)
     (contents : contents_of new ≡ with_part (contents_of table) (map_index_of tenant m * 256) (replicate (page_count shape) zero_page))
@@ -146,8 +137,12 @@ module _ (table new : TableState) (shapes : List (Option Shape)) (tenants : List
   unfolding view_of with_new_pages
   sharing_after = rw (states, groups) refl
 
-  pub creates : Creates before after tenant m shape mergeable
-  creates = grind (arith, nat_tests, free_is, created_after, one, sharing_after)
+  have_after : have_of after + page_count shape ≡ have_of before
+  unfolding view_of
+  have_after = grind (arith, nat_tests, free_is table shapes tenants pass, free_is new (slice_set shapes k (Some shape)) tenants pass)
+
+  pub creates : HasMap tenant m shape mergeable before after
+  creates = grind (arith, nat_tests, free_is, have_after, created_after, one, sharing_after)
 
 -- the conditions of a new map, over what callers see
 module _ (table : TableState) (shapes : List (Option Shape)) (tenants : List Tenant) (pass : Pass) (now : MemoryState) (same : view_of table shapes tenants pass ≡ now) where

@@ -1,5 +1,5 @@
 -- What the calls change, and when they refuse.
-use Rattle.std.specs.Prelude.{◌≡◌, ◌≢◌, ℕ, ◌*◌, ◌<◌, ◌≤◌, Bool, true, false, List, [], ◌∷◌, find, length, replicate, slice_set, Option, None, Some, IsSome, IfSome, IsNone, option_map, unwrap_or}
+use Rattle.std.specs.Prelude.{◌≡◌, ◌≢◌, ℕ, ◌+◌, ◌*◌, ◌<◌, ◌≤◌, Bool, true, false, List, [], ◌∷◌, find, length, replicate, slice_set, Option, None, Some, IsSome, IfSome, IsNone, option_map, unwrap_or}
 use Rattle.host_types.specs.declared.fault.Fault.{Fault}
 use Rattle.host_types.specs.declared.fault.Fault.TheVariants.{NoFrames, TooManyMaps, BadShape, NoMap, BadOption, OutOfMemory, BadTenant}
 use Rattle.host_types.specs.declared.options.Options.{Options}
@@ -8,14 +8,14 @@ use Rattle.host_types.specs.declared.shape.Shape.{Shape}
 use Rattle.host_types.specs.Bytes.{with_part}
 use Rattle.host_types.specs.Memory.{FlatMap, map_at}
 use Rattle.host_types.specs.OptionTable.{AreOptions}
-use Rattle.host_types.specs.Pages.{page_index_of}
+use Rattle.host_types.specs.Pages.{map_index_of, page_index_of}
 use Rattle.host_types.specs.Pins.{is_pinned, released}
 use Rattle.host_types.specs.Shapes.{IsShape, byte_len_of}
 use Rattle.host_types.specs.Sharing.{Sharing, state_at, new_page, is_shared}
 use Rattle.host_types.specs.Tenant.{TenantPart}
 use Rattle.host_types.specs.Visits.{Contents, contents_in, is_open, find_partner, is_waiting}
 use Rattle.page_table.specs.Limits.{AreLimits, page_count}
-use Rattle.page_table.specs.State.{MemoryState, unreserved_tenant, tenant_at, part, bytes_of_map, free_number, frame_at, have_of}
+use Rattle.page_table.specs.State.{MemoryState, unreserved_tenant, tenant_at, part, bytes_of_map, free_number, frame_at, free_of, have_of}
 
 -- a map whose bytes are all zero
 abbrev pub zero_map : Shape → FlatMap
@@ -135,6 +135,18 @@ partner_index memory i fingerprint =
 unfoldable pub with_new_pages : Sharing → ℕ → ℕ → Bool → Sharing
 with_new_pages sharing page_index count mergeable =
     record sharing { pages = with_part sharing.pages page_index (replicate count (Some (new_page mergeable))) }
+
+-- A map of zeros was made for a tenant, at the number m. Its pages were never visited, and may be merged or not; nothing
+-- else changed of which pages share frames, nor another map, another tenant's part or a setting.
+pub record HasMap (tenant m : ℕ) (shape : Shape) (mergeable : Bool) (old new : MemoryState) : Type 0 where
+  pub created : part new tenant ≡ part_created (part old tenant) m shape
+  pub there : map_at (part new tenant).maps m ≡ Some (zero_map shape)
+  pub other_maps : AreMapsKeptBut m (part old tenant) (part new tenant)
+  pub others : OtherTenantsUnchanged tenant old new
+  pub sharing : new.sharing ≡ with_new_pages old.sharing (map_index_of tenant m * 256) (page_count shape) mergeable
+  pub free : free_of new + page_count shape ≡ free_of old
+  pub have : have_of new + page_count shape ≡ have_of old
+  pub settings : KeepsSettings old new
 
 -- what has to hold for a new map: the tenant has a free number, the shape is within the limits, and there are frames
 pub record FitsMap (memory : MemoryState) (tenant : ℕ) (shape : Shape) : Type 0 where

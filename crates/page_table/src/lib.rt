@@ -12,10 +12,14 @@ mod page_list;
 mod pass;
 mod pins;
 mod runs;
+mod scans;
 mod search;
+mod sharing;
 mod table;
 mod tally;
 mod tenant;
+mod tenant_maps;
+mod writes;
 
 pub use entry::Entry;
 pub use memory::Memory;

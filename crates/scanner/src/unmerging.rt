@@ -1,7 +1,7 @@
-ghost use Rattle.std.specs.Prelude.{◌≡◌, ◌+◌, ◌≤◌, OnOk, IfErr, OnErr};
-ghost use Rattle.host_types.specs.Unmerging.{unmerged, unmerge_need, RefusesUnmerge, SharesNothing};
-ghost use Rattle.page_table.specs.State.{free_of, have_of};
-ghost use Rattle.page_table.specs.Changes.{AreKept, KeepsSettings};
+ghost use Rattle.std.specs.Prelude.{◌≡◌, OnOk, IfErr, OnErr};
+ghost use Rattle.host_types.specs.Unmerging.{RefusesUnmerge};
+ghost use Rattle.page_table.specs.State.{have_of};
+ghost use Rattle.scanner.specs.Unmerged.{HasUnmerged};
 
 use host_types::Fault;
 use page_table::Memory;
@@ -11,13 +11,7 @@ use page_table::Memory;
 ///
 /// 31 where that takes more frames than `have()`; it names both numbers, and changes nothing.
 pub fn unmerge_all(memory: &mut Memory) -> Result<(), Fault>
-    ensures enough { OnOk result (unmerge_need memory.old.sharing ≤ have_of memory.old) }
-    ensures unmerged { OnOk result (memory.new.sharing ≡ unmerged memory.old.sharing) }
-    ensures none { OnOk result (SharesNothing memory.new.sharing) }
-    ensures free { OnOk result (free_of memory.new + unmerge_need memory.old.sharing ≡ free_of memory.old) }
-    ensures maps { memory.new.maps ≡ memory.old.maps }
-    ensures kept { AreKept memory.old memory.new }
-    ensures settings { KeepsSettings memory.old memory.new }
+    ensures unmerged { OnOk result (HasUnmerged memory.old memory.new) }
     ensures err { IfErr result (RefusesUnmerge memory.old.sharing (have_of memory.old)) }
     ensures unchanged { OnErr result (memory.new ≡ memory.old) }
 {

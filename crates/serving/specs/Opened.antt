@@ -9,14 +9,14 @@ use Rattle.host_types.specs.OptionTable.{MayBe}
 use Rattle.host_types.specs.declared.options.Options.{Options}
 use Rattle.bpf_decode.specs.Text.{IsWellFormed}
 use Rattle.verifier.specs.Verified.{Accepted, IsVerified}
-use Rattle.page_table.specs.Changes.{part_created}
+use Rattle.page_table.specs.Changes.{part_created, HasMap}
 use Rattle.page_table.specs.Limits.{shape_of}
 use Rattle.page_table.specs.State.{MemoryState, free_number, part}
 use Rattle.map_helpers.specs.Updates.{part_updated}
 use Rattle.host_calls.specs.Calls.{FitsNewMap, FitsValue, RefusesNewMap, RefusesUpdate, NamesHave}
 use Rattle.host_calls.specs.Programs.{RefusesProgram, subject_of}
 use Rattle.turn.specs.Seats.{SeatState, own_part}
-use Rattle.tenant_workers.specs.Calls.{HasChanged, HasMap}
+use Rattle.tenant_workers.specs.Calls.{HasChanged}
 use Rattle.tenant_workers.specs.declared.plans.TenantPlan.{TenantPlan}
 use Rattle.host_types.specs.declared.event.Event.{Event}
 use Rattle.host_types.specs.declared.event.Event.TheVariants.{CreateMap, Load, HostUpdate, Set}

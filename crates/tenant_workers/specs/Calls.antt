@@ -1,18 +1,16 @@
 -- What a call leaves of its seat, and what its turn did to the memory.
-use Rattle.std.specs.Prelude.{◌≡◌, ◌*◌, ℕ, Bool, false, List, [], ◌∷◌, ◌++◌, length, All, IsNone}
+use Rattle.std.specs.Prelude.{◌≡◌, ◌*◌, ℕ, false, List, [], ◌∷◌, ◌++◌, length, All, IsNone}
 use Rattle.host_types.specs.declared.fault.Fault.{Fault}
 use Rattle.host_types.specs.declared.fault.Fault.TheVariants.{NoMap}
 use Rattle.host_types.specs.Memory.{map_at}
 use Rattle.host_types.specs.Pages.{map_index_of}
-use Rattle.host_types.specs.Unmerging.{with_option, unmerged}
+use Rattle.host_types.specs.Unmerging.{with_option}
 use Rattle.host_types.specs.Tenant.{TenantPart}
 use Rattle.host_types.specs.Visits.{visit, dropped}
 use Rattle.host_types.specs.declared.options.Opt.{Opt}
-use Rattle.host_types.specs.declared.shape.Shape.{Shape}
 use Rattle.host_types.specs.declared.visited.Visited.{Visited}
-use Rattle.page_table.specs.Limits.{page_count}
 use Rattle.page_table.specs.State.{MemoryState, part}
-use Rattle.page_table.specs.Changes.{contents_now, with_new_pages, pages_of_map, OtherTenantsUnchanged, KeepsSettings}
+use Rattle.page_table.specs.Changes.{contents_now, pages_of_map, OtherTenantsUnchanged, KeepsSettings}
 use Rattle.map_helpers.specs.Updates.{part_updated, updated_sharing_as}
 use Rattle.turn.specs.Seats.{SeatState}
 
@@ -47,18 +45,6 @@ IsUnchanged old new = new ≡ old
 abbrev pub HasSet : Opt → ℕ → MemoryState → MemoryState → Type 0
 HasSet option value old new =
     new ≡ record old { sharing = record old.sharing { options = with_option old.sharing.options option value } }
-
--- everything was unmerged, and no map changed
-pub record HasUnmerged (old new : MemoryState) : Type 0 where
-  pub sharing : new.sharing ≡ unmerged old.sharing
-  pub maps : new.maps ≡ old.maps
-
--- A map of a tenant was made: its pages were never visited, and may be merged or not; nothing else changed of which
--- pages share frames, and no other tenant's part.
-pub record HasMap (tenant m : ℕ) (shape : Shape) (mergeable : Bool) (old new : MemoryState) : Type 0 where
-  pub sharing : new.sharing ≡ with_new_pages old.sharing (map_index_of tenant m * 256) (page_count shape) mergeable
-  pub others : OtherTenantsUnchanged tenant old new
-  pub settings : KeepsSettings old new
 
 -- A value was written to an element of a map of a tenant, which had this part before: its maps are those of the
 -- update, and no page is pinned for it. The pages that it wrote left their groups and the frame of zeros, and nothing

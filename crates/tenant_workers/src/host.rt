@@ -5,7 +5,8 @@ ghost use Rattle.page_table.specs.State.{have_of};
 ghost use Rattle.page_table.specs.Changes.{contents_now};
 ghost use Rattle.ksm_counters.specs.Counters.{counters_of};
 ghost use Rattle.turn.specs.Seats.{IsIdle};
-ghost use Rattle.tenant_workers.specs.Calls.{IsSameSeat, memory_left, HasChanged, HasSet, HasUnmerged, IsUnchanged};
+ghost use Rattle.scanner.specs.Unmerged.{HasUnmerged};
+ghost use Rattle.tenant_workers.specs.Calls.{IsSameSeat, memory_left, HasChanged, HasSet, IsUnchanged};
 
 use crate::shared::Shared;
 use host_calls::{host_set, host_unmerge};

@@ -1,14 +1,14 @@
 ghost use Rattle.std.specs.Prelude.{◌≡◌, Some, OnOk, IfOk, IfErr, OnErr, IsSome};
 ghost use Rattle.host_types.specs.Memory.{map_at};
 ghost use Rattle.host_types.specs.Tenant.{part_dropped};
-ghost use Rattle.page_table.specs.Changes.{part_created};
+ghost use Rattle.page_table.specs.Changes.{part_created, HasMap};
 ghost use Rattle.page_table.specs.Limits.{shape_of};
 ghost use Rattle.page_table.specs.State.{free_number};
 ghost use Rattle.host_types.specs.Helpers.{maps_updated};
 ghost use Rattle.map_helpers.specs.Updates.{part_updated};
 ghost use Rattle.host_calls.specs.Calls.{FitsNewMap, FitsValue, IsValue, RefusesNewMap, RefusesUpdate, RefusesLookup, NamesHave};
 ghost use Rattle.turn.specs.Seats.{IsIdle, own_part};
-ghost use Rattle.tenant_workers.specs.Calls.{IsSameSeat, memory_left, HasChanged, HasDropped, HasMap, HasUpdated, IsUnchanged, LacksMap};
+ghost use Rattle.tenant_workers.specs.Calls.{IsSameSeat, memory_left, HasChanged, HasDropped, HasUpdated, IsUnchanged, LacksMap};
 ghost use Rattle.tenant_workers.specs.Runs.{IsResting};
 
 use crate::shared::Shared;

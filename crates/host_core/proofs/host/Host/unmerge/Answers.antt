@@ -8,8 +8,7 @@ use Rattle.host_core.proofs.host.Host.unmerge.Goals as goal
 -- no page shares a frame any more
 unmerges : (c : goal.In_ok-host_unmerge) → Leads (record { tenants = c.self.inside.tenants.items; memory = c.self.inside.memory }) (Unmerges Done) (record { tenants = c.self.inside.tenants.items; memory = c.host_unmerge.new.memory })
 unmerges c =
-    let ensured = c.in_ok-host_unmerge.ensures in
-    leads-unmerge c.self.inside.tenants.items c.self.inside.memory c.host_unmerge.new.memory ensured.enough ensured.unmerged ensured.settings ensured.kept ensured.maps
+    leads-unmerge c.self.inside.tenants.items c.self.inside.memory c.host_unmerge.new.memory c.in_ok-host_unmerge.ensures.unmerged
 
 pub invariant_of-self-2 : goal.invariant_of-self-2
 invariant_of-self-2 c = hosts_on _ _ _ (unmerges c) c.self.invariant

@@ -20,10 +20,11 @@ pub returns : goal.returns
 returns c =
     let idle = run_is c.args.self.now c.self.inside.programs c.self.inside.run c.is_open.result false c.self.view_is c.is_open.ensures c.if-is_open.false in
     let call = c.in_ok-map.ensures in
+    let made = call.made in
     create-made c.args.number c.args.self.now c.args.memory.now c.host_create_map.new.memory c.args.value_size c.args.entries c.args.mergeable c.in_ok-map.map idle (record {
       allowed = call.allowed;
       number = call.number;
-      created = call.created;
-      sharing = call.sharing;
-      kept = has_kept c.args.number c.args.memory.now c.host_create_map.new.memory c.in_ok-map.map call.other_maps call.others call.settings c.facts.ensures (c.maps_are_flat.ensures.flat c.args.number);
+      created = made.created;
+      sharing = made.sharing;
+      kept = has_kept c.args.number c.args.memory.now c.host_create_map.new.memory c.in_ok-map.map made.other_maps made.others made.settings c.facts.ensures (c.maps_are_flat.ensures.flat c.args.number);
     })

@@ -1,5 +1,5 @@
 use Rattle.page_table.proofs.Base.{◌≡◌, ℕ, ◌+◌, length, replicate, Some, with_part, new_page, zero_page, Entry, contents_of, states_of, groups_of, used_by, entry_at}
-use Rattle.page_table.proofs.memory.add_pages.Given as goal
+use Rattle.page_table.proofs.tenant_maps.add_pages.Given as goal
 
 abbrev pub invariant-loop-number : goal.invariant-loop-number
 invariant-loop-number l = record {

@@ -1,6 +1,6 @@
 use Rattle.page_table.proofs.Base.{arith, nat_tests}
 use Rattle.page_table.proofs.Creating.{filled_more, with_part-none, length-contents, length-states, filled_at}
-use Rattle.page_table.proofs.memory.add_pages.Goals as goal
+use Rattle.page_table.proofs.tenant_maps.add_pages.Goals as goal
 
 pub loop-number-init : goal.loop-number-init
 loop-number-init c = grind (arith, nat_tests, with_part-none)
