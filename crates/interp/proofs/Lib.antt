@@ -25,7 +25,6 @@ pub mod Soundness
 pub mod InTable
 pub mod Writing
 pub mod Naming
-pub mod Quiet
 pub mod Starts
 pub mod Covering
 pub mod Following

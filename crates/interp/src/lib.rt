@@ -2,11 +2,14 @@
 //! is the standard's (RFC 9669, sections 4 and 5).
 #![tactic(auto)]
 
+mod at_hand;
 mod control;
 mod maps;
+mod memory;
 mod need;
 mod on_maps;
 mod run;
+mod step;
 
 pub use maps::MapMemory;
 pub use need::Need;
