@@ -8,7 +8,7 @@ use Rattle.host_types.specs.declared.fault.Fault.TheVariants.{Program, TooManyMa
 use Rattle.host_types.specs.Refusals.{fault_number}
 use Rattle.verifier.specs.Subject.{Subject, IsContextSize}
 use Rattle.verifier.specs.Verified.{AreShapes}
-use Rattle.lowering.specs.declared.rewriting.NotLowered.{NotLowered}
+use Rattle.lowering.specs.declared.rewrite.NotLowered.{NotLowered}
 use Rattle.lowering.specs.declared.stop.Stop.TheVariants as stop
 use Rattle.lowering.specs.Laws.{EndAlike, KeepsFaultless}
 use Rattle.lowering.specs.Lowering.{VerifierAccepts, IsRefusedBy, IsLowered}

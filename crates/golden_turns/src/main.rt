@@ -10,7 +10,7 @@ mod ends;
 mod gates;
 mod numbers;
 mod refused;
-mod serving;
+mod serve;
 mod tenants;
 mod turns;
 mod wakes;
@@ -38,5 +38,5 @@ fn main(rt: HostRuntime) -> io::Result<()> {
     gates::print_rows(&rt)?;
     copy::print_row(&rt)?;
     drops::print_row(&rt)?;
-    serving::print_rows(&rt)
+    serve::print_rows(&rt)
 }

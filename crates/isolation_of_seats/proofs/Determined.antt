@@ -3,7 +3,7 @@ use Rattle.std.proofs.Common.{◌≡◌, ℕ, zero, suc, ◌<◌, ◌⊎◌, inl
 use Rattle.host_types.specs.Memory.{FlatMaps}
 use Rattle.interp.specs.Machine.{MachineState, Outcome, Next, Exits, start_state, step}
 use Rattle.interp.specs.Runs.{Reaches, Runs}
-use Rattle.tenant_runs.specs.declared.driving.RunReply.{RunReply}
+use Rattle.tenant_runs.specs.declared.answers.RunReply.{RunReply}
 use Rattle.isolation_of_seats.specs.Laws.{RunsAreDetermined}
 
 -- so many steps lead to one outcome

@@ -9,7 +9,7 @@ use Rattle.verifier.specs.Named.{named_shapes}
 use Rattle.verifier.specs.Verified.{Accepted}
 use Rattle.interp.specs.Fits.{HaveShapes}
 use Rattle.host_calls.specs.Programs.{RefusesBegin}
-use Rattle.tenant_runs.specs.declared.driving.RunReply.{RunReply}
+use Rattle.tenant_runs.specs.declared.answers.RunReply.{RunReply}
 use Rattle.tenant_workers.specs.Runs.{RefusesRunOnContext}
 use Rattle.tenant_workers.specs.Replies.{RepliesTo, RepliesBy, AllReply}
 use Rattle.turn.specs.Seats.{SeatState, own_part}

@@ -2,7 +2,7 @@
 use Rattle.std.specs.Prelude.{◌≡◌, ℕ, List}
 use Rattle.host_types.specs.Tenant.{TenantPart}
 use Rattle.verifier.specs.Verified.{Accepted}
-use Rattle.tenant_runs.specs.declared.driving.RunReply.{RunReply}
+use Rattle.tenant_runs.specs.declared.answers.RunReply.{RunReply}
 use Rattle.tenant_runs.specs.UnderWay.{HasRun}
 use Rattle.turn.specs.Seats.{own_part}
 use Rattle.tenant_workers.specs.Plans.{Planned, IsPlanServed}

@@ -3,7 +3,7 @@ use Rattle.std.specs.Prelude.{◌≡◌, ◌⊎◌, Bool, true, false, List, [],
 use Rattle.host_types.specs.declared.fault.Fault.{Fault}
 use Rattle.host_types.specs.declared.fault.Fault.TheVariants.{NoFrames, OutOfMemory}
 use Rattle.host_types.specs.Memory.{FlatMaps}
-use Rattle.tenant_runs.specs.declared.driving.RunReply.{RunReply}
+use Rattle.tenant_runs.specs.declared.answers.RunReply.{RunReply}
 
 -- frames or memory were scarce, of which other tenants had their share
 abbrev pub is_scarce_run : Result RunReply Fault → Bool

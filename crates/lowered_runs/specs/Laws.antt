@@ -4,7 +4,7 @@ use Rattle.host_types.specs.Memory.{FlatMaps}
 use Rattle.host_types.specs.Tenant.{TenantPart}
 use Rattle.verifier.specs.Verified.{Accepted}
 use Rattle.lowering.specs.Laws.{EndAlike, Ends}
-use Rattle.tenant_runs.specs.declared.driving.RunReply.{RunReply}
+use Rattle.tenant_runs.specs.declared.answers.RunReply.{RunReply}
 use Rattle.tenant_runs.specs.UnderWay.{HasRun}
 use Rattle.host_core.specs.declared.reply.Reply.TheVariants.{Ended}
 use Rattle.host_core.specs.World.{OpenRun, World, started}

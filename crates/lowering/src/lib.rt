@@ -5,20 +5,20 @@
 
 mod accept;
 mod blocks;
-mod covering;
+mod cover;
 mod deciding;
 mod emit;
 mod flows;
 mod laws;
 mod order;
-mod rewriting;
+mod rewrite;
 mod row;
 mod slots;
 mod stop;
 mod values;
 mod walk;
 
-pub use covering::covers;
+pub use cover::covers;
 pub use laws::covering_keeps_runs;
-pub use rewriting::{Lowered, NotLowered, lower};
+pub use rewrite::{Lowered, NotLowered, lower};
 pub use stop::Stop;

@@ -3,7 +3,7 @@ use Rattle.std.proofs.Common.{◌≡◌, ◌∙◌, ◌<◌, ◌+◌, ℕ, List,
 use mir.Val.{bool_byte}
 use Rattle.std.proofs.lemmas.List.{drop_all, drop_more}
 use Rattle.host_types.specs.declared.fault.Fault.{Fault}
-use Rattle.tenant_runs.specs.declared.driving.RunReply.{RunReply}
+use Rattle.tenant_runs.specs.declared.answers.RunReply.{RunReply}
 use Rattle.host_types.specs.declared.event.Event.{Event}
 use Rattle.host_file.specs.declared.command.Command.{Command}
 use Rattle.serving.specs.RunLines.{all_run_tellings, beginning_for, beginnings_for, count_made, run_tellings, whole_reply}

@@ -1,7 +1,7 @@
 -- What is printed of the runs of a served file (docs/HOST.md).
 use Rattle.std.specs.Prelude.{ℕ, ◌+◌, List, [], ◌∷◌, ◌++◌, flat_map, nat_eq, Result, Ok, Err, if◌then◌else◌}
 use Rattle.host_types.specs.declared.fault.Fault.{Fault}
-use Rattle.tenant_runs.specs.declared.driving.RunReply.{RunReply}
+use Rattle.tenant_runs.specs.declared.answers.RunReply.{RunReply}
 use Rattle.host_types.specs.declared.event.Event.{Event}
 use Rattle.host_types.specs.declared.event.Event.TheVariants.{Begin}
 use Rattle.host_core.specs.declared.reply.Reply.{Reply}

@@ -6,7 +6,7 @@ use Rattle.host_types.specs.Refusals.{refusal_text}
 use Rattle.host_types.specs.Tenant.{TenantPart}
 use Rattle.page_table.specs.Changes.{RefusesMemory}
 use Rattle.turn.specs.Seats.{SeatState, own_part}
-use Rattle.tenant_runs.specs.declared.driving.RunReply.{RunReply}
+use Rattle.tenant_runs.specs.declared.answers.RunReply.{RunReply}
 use Rattle.tenant_workers.specs.Plans.{AreAnswered}
 use Rattle.tenant_workers.specs.declared.plans.TenantPlan.{TenantPlan}
 use Rattle.host_types.specs.declared.event.Event.{Event}

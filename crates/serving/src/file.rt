@@ -12,10 +12,10 @@ ghost use Rattle.serving.specs.Prepared.{visits_in};
 ghost use Rattle.serving.specs.Opened.{IsNewPlan};
 ghost use Rattle.serving.specs.Served.{AreNotServed, IsServedSo};
 
-use crate::closing::print_served;
-use crate::opening::open_all;
 use crate::report::print_stop;
+use crate::results::print_served;
 use crate::runs::{add_runs, visits_of};
+use crate::setup::open_all;
 use crate::shared_host::{SharedHost, open_host, plans_of};
 use engines::{file_from, refuse, written};
 use host_file::{FileFault, HostFile, require_served};

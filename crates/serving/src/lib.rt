@@ -2,11 +2,11 @@
 //! the scanner on another.
 #![tactic(auto)]
 
-mod closing;
 mod file;
-mod opening;
 mod report;
+mod results;
 mod runs;
+mod setup;
 mod shared_host;
 
 pub use file::serve_file;

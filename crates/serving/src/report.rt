@@ -7,7 +7,7 @@ ghost use Rattle.host_file.specs.Faults.{IsBad};
 ghost use Rattle.engines.specs.Lines.{reply_lines};
 ghost use Rattle.engines.specs.Replay.{is_refusal};
 
-use crate::opening::Stop;
+use crate::setup::Stop;
 use engines::{Known, explain_at, write_reply};
 use host_core::{Event, Reply};
 use host_file::{Command, FileFault};

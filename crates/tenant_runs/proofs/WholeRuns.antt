@@ -10,7 +10,7 @@ use Rattle.interp.specs.Fits.{HaveShapes}
 use Rattle.interp.specs.Machine.{MachineState, Exits, start_state}
 use Rattle.interp.specs.Runs.{Reaches}
 use Rattle.interp.specs.StandsFor.{Running, IsBegun}
-use Rattle.tenant_runs.specs.declared.driving.RunReply.{RunReply}
+use Rattle.tenant_runs.specs.declared.answers.RunReply.{RunReply}
 use Rattle.tenant_runs.specs.UnderWay.{IsUnderWay, HasRun}
 
 pub has_run : (v : Accepted) (context : List ℕ) (old admitted finished released : TenantPart) (run : Running) (reply : RunReply) → HaveShapes (named_shapes v.subject) old.maps → length context ≡ v.subject.context_size

@@ -14,7 +14,7 @@ use Rattle.interp.specs.Fits.{HaveShapes}
 use Rattle.interp.specs.Machine.{MachineState, Exits}
 use Rattle.interp.specs.Runs.{Runs}
 use Rattle.interp.specs.StandsFor.{Running, StandsFor, Asks}
-use Rattle.tenant_runs.specs.declared.driving.RunReply.{RunReply}
+use Rattle.tenant_runs.specs.declared.answers.RunReply.{RunReply}
 
 -- A run under way stands for a state whose maps are the tenant's; it is the tenant's open run, and what the rest of it
 -- may need is reserved for the tenant.

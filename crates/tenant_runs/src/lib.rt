@@ -3,14 +3,14 @@
 //! turn of a worker are this one code, and no call changes what another tenant has.
 #![tactic(auto)]
 
-mod driving;
+mod answers;
+mod begin;
 mod maps;
 mod needs;
-mod opening;
-mod running;
+mod whole_run;
 
-pub use driving::{RunReply, answer, finish};
+pub use answers::{RunReply, answer, finish};
+pub use begin::{open_run, reopen_run};
 pub use maps::TenantMaps;
 pub use needs::fulfil;
-pub use opening::{open_run, reopen_run};
-pub use running::{has_shapes, run};
+pub use whole_run::{has_shapes, run};

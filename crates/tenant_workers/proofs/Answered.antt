@@ -4,7 +4,7 @@ use Rattle.std.proofs.Math.ListN.{set, get_or-map}
 use Rattle.std.proofs.lemmas.List.{take_more, take_more_set}
 use Rattle.host_types.specs.declared.fault.Fault.{Fault}
 use Rattle.verifier.specs.Verified.{Accepted}
-use Rattle.tenant_runs.specs.declared.driving.RunReply.{RunReply}
+use Rattle.tenant_runs.specs.declared.answers.RunReply.{RunReply}
 use Rattle.host_calls.specs.Calls.{NamesHave}
 use Rattle.tenant_runs.specs.UnderWay.{HasRun}
 use Rattle.turn.specs.Seats.{SeatState, own_part}

@@ -3,7 +3,7 @@ use Rattle.std.proofs.Common.{◌≡◌, ℕ, zero, suc, List, [], ◌∷◌, ma
 use Rattle.std.proofs.Math.ListN.{set}
 use Rattle.std.proofs.lemmas.List.{length-map, take_at}
 use Rattle.host_types.specs.declared.fault.Fault.{Fault}
-use Rattle.tenant_runs.specs.declared.driving.RunReply.{RunReply}
+use Rattle.tenant_runs.specs.declared.answers.RunReply.{RunReply}
 use Rattle.tenant_workers.specs.declared.plans.TenantPlan.{TenantPlan}
 use Rattle.tenant_workers.specs.Plans.{AreAnswered, AreSamePlans, AreServed, IsPlanServed, Planned, planned_by}
 use Rattle.tenant_workers.specs.Jobs.{AreEach}

@@ -4,7 +4,7 @@ use Rattle.host_types.specs.declared.fault.Fault.{Fault}
 use Rattle.host_types.specs.declared.fault.Fault.TheVariants.{OutOfMemory}
 use Rattle.atomic_table.specs.Seated.{TableId}
 use Rattle.verifier.specs.Verified.{Accepted}
-use Rattle.tenant_runs.specs.declared.driving.RunReply.{RunReply}
+use Rattle.tenant_runs.specs.declared.answers.RunReply.{RunReply}
 use Rattle.turn.specs.Seats.{SeatState}
 use Rattle.tenant_workers.specs.Calls.{HasVisited, IsSameSeat}
 use Rattle.tenant_workers.specs.Jobs.{AreEach}

@@ -4,7 +4,7 @@ use Rattle.host_types.specs.declared.fault.Fault.{Fault}
 use Rattle.host_types.specs.declared.fault.Fault.TheVariants.{NoProgram}
 use Rattle.verifier.specs.Verified.{Accepted}
 use Rattle.host_calls.specs.Calls.{NamesHave}
-use Rattle.tenant_runs.specs.declared.driving.RunReply.{RunReply}
+use Rattle.tenant_runs.specs.declared.answers.RunReply.{RunReply}
 use Rattle.tenant_runs.specs.UnderWay.{HasRun}
 use Rattle.turn.specs.Seats.{SeatState, own_part}
 use Rattle.tenant_workers.specs.Calls.{HasGoneOn, memory_left}

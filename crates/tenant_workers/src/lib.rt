@@ -2,20 +2,20 @@
 //! gives the turn back.
 #![tactic(auto)]
 
-mod driving;
 mod gate;
 mod host;
 mod maps;
 mod plans;
 mod programs;
 mod replies;
-mod running;
-mod scanning;
-mod serving;
+mod run;
+mod scan;
+mod service;
 mod shared;
+mod steps;
 mod threads;
 
 pub use gate::{Gate, Open, Passed};
 pub use plans::{Plan, ScanPlan, TenantPlan};
-pub use serving::serve;
+pub use service::serve;
 pub use shared::Shared;
