@@ -12,6 +12,13 @@ pub(crate) struct Function {
     pub size: usize,
 }
 
+impl Function {
+    /// The refusal of something at a byte of the function.
+    pub fn refused(&self, at: usize, cause: Cause) -> ObjectError {
+        ObjectError::at(self.section, self.begin.saturating_add(at), cause)
+    }
+}
+
 /// Which functions are looked at: those that other files see, in one section, in all named by SEC, or in .text.
 #[derive(Clone, Copy)]
 enum Among {
