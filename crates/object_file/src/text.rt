@@ -255,8 +255,10 @@ fn relocate_call(
     let Some(begin) = moved(symbol.value, distance) else {
         return Err(function.refused(at, Cause::CallOut));
     };
-    let called = functions.number_of(&tables.object, &tables.symbols, symbol.section, begin)?;
-    text.add_call(slot, called)
+    match functions.number_of(&tables.object, &tables.symbols, symbol.section, begin)? {
+        Some(called) => text.add_call(slot, called),
+        None => Err(function.refused(at, Cause::CallOut)),
+    }
 }
 
 /// The distance of the call of a function at an offset of a text, in slots: one more than its immediate.
@@ -308,6 +310,9 @@ fn add_calls(
             return Err(function.refused(at, Cause::CallOut));
         };
         let called = functions.number_of(&tables.object, &tables.symbols, function.section, begin)?;
+        let Some(called) = called else {
+            return Err(function.refused(at, Cause::CallOut));
+        };
         text.add_call(slot, called)?;
     }
     Ok(())
