@@ -118,6 +118,24 @@ pub enum Cause {
     RelocatedData,
 }
 
+impl Cause {
+    /// Whether an instruction is refused.
+    fn is_of_instruction(&self) -> bool {
+        match self {
+            Cause::UnknownRelocation(_)
+            | Cause::NotWide
+            | Cause::NotCall
+            | Cause::Unresolved(_)
+            | Cause::OtherAddress(_)
+            | Cause::CallOut
+            | Cause::HelperByBtf
+            | Cause::Atomic
+            | Cause::PacketAccess => true,
+            _ => false,
+        }
+    }
+}
+
 impl ObjectError {
     /// The refusal of something at a byte of a section.
     pub fn at(section: usize, offset: usize, cause: Cause) -> Self {
@@ -128,11 +146,14 @@ impl ObjectError {
         }
     }
 
-    /// The same refusal with the line of which the instruction at its byte was made, where the file says it.
+    /// The same refusal; that of an instruction has the line of which this was made, where the file says it.
     pub(crate) fn with_line(self, alloc: Global, bytes: &[u8]) -> Result<Self, AllocError>
         ensures location { IfOk result (λ error. error.location ≡ self.location) }
         ensures cause { IfOk result (λ error. error.cause ≡ self.cause) }
     {
+        if !self.cause.is_of_instruction() {
+            return Ok(self);
+        }
         match line_at(bytes, self.location) {
             Ok(Some(line)) => {
                 let words = line.in_words(alloc)?;
