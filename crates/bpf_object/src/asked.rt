@@ -15,8 +15,8 @@ pub struct Asked<'a> {
     pub section: Option<&'a str>,
     pub tenant: u32,
     pub context: u32,
-    /// Whether the text is to be lowered first.
-    pub lower: bool,
+    /// Whether the text is to be printed as it is, without being lowered.
+    pub as_is: bool,
     pub form: Form,
 }
 
@@ -53,7 +53,7 @@ pub fn asked_of<'a>(alloc: Global, words: &'a [String]) -> Result<Asked<'a>, Fau
         section: matches.get_str("section"),
         tenant: number_of(alloc, &matches, "tenant")?,
         context: number_of(alloc, &matches, "context")?,
-        lower: matches.get_flag("lower"),
+        as_is: matches.get_flag("as-is"),
         form,
     })
 }
@@ -109,8 +109,8 @@ fn command<'a>(alloc: Global) -> Result<Command<'a>, AllocError> {
         ))?
         .arg(flag(
             alloc,
-            "lower",
-            "lowers the text first, for its maps and the context",
+            "as-is",
+            "prints the text without lowering it for the verifier",
         ))?
         .arg(flag(alloc, "hex", "prints the text alone, as hex"))?
         .arg(flag(

@@ -1,7 +1,8 @@
 //! The program `bpf_object`: the lines of a host file that load a program from an object file, as `clang -target bpf -c` makes
-//! it. With no words it answers each line of the standard input, whose words spaces set apart.
+//! it, lowered for the verifier. With no words it answers each line of the standard input, whose words spaces set apart.
 #![tactic(auto)]
 
+mod accepted;
 mod answer;
 mod asked;
 mod events;

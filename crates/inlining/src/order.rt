@@ -66,11 +66,40 @@ fn with_calls(alloc: Global, functions: &[Function<'_>]) -> Result<Inlined, NotI
     for _round in functions {
         make_more(alloc, functions, &mut made)?;
     }
+    let (function, slot) = recursive_call(functions, made.as_slice());
     match made.into_iter().next() {
         Some(Some(first)) if first.whole.is_whole() => Ok(first.whole),
         Some(Some(_)) => Err(Stop::UnknownCall.at(0)),
-        _ => Err(Stop::Recursion.at(0)),
+        _ => Err(NotInlined {
+            function,
+            slot,
+            stop: Stop::Recursion,
+        }),
     }
+}
+
+/// Whether the text of a function is made.
+fn is_made(made: &[Option<Made>], function: usize) -> bool {
+    matches!(made.get(function), Some(Some(_)))
+}
+
+/// A call that leads back to its function, by the number of this and its slot, where texts aren't made since there is one. From the
+/// first function on, calls of functions whose texts aren't made lead to it in as many steps as there are functions.
+fn recursive_call(functions: &[Function<'_>], made: &[Option<Made>]) -> (usize, usize) {
+    let mut found = (0, 0);
+    let mut number = 0;
+    for _step in functions {
+        let Some(function) = functions.get(number) else {
+            break;
+        };
+        let unmade = |call: &&Call| !is_made(made, call.function);
+        let Some(call) = function.calls.iter().find(unmade) else {
+            break;
+        };
+        found = (number, call.slot);
+        number = call.function;
+    }
+    found
 }
 
 /// Makes each text whose calls are of functions whose texts are made.
@@ -80,13 +109,11 @@ fn make_more(
     made: &mut Vec<Option<Made>>,
 ) -> Result<(), NotInlined> {
     for (number, function) in functions.iter().enumerate() {
-        let is_made = matches!(made.get(number), Some(Some(_)));
-        if is_made
-            || !function
-                .calls
-                .iter()
-                .all(|call| matches!(made.get(call.function), Some(Some(_))))
-        {
+        let calls_unmade = function
+            .calls
+            .iter()
+            .any(|call| !is_made(made.as_slice(), call.function));
+        if is_made(made.as_slice(), number) || calls_unmade {
             continue;
         }
         match with_copies(alloc, number, function, made.as_slice()) {

@@ -1,17 +1,21 @@
 //! Why an object file isn't taken.
 
+ghost use Rattle.std.specs.Prelude.{◌≡◌, IfOk};
+
+use crate::lines::line_at;
 use host_types::Shape;
 use std::alloc::{AllocError, AllocFailed, Global};
 use std::fmt;
 use terminal_text::quoted;
 use thiserror::Error;
 
-/// A refusal of an object file: what is wrong, and where.
+/// A refusal of an object file: what is wrong, and where, also in the source if that is known.
 #[derive(Debug, Drop, Error)]
-#[error("{location}{cause}")]
+#[error("{location}{cause}{line}")]
 pub struct ObjectError {
     pub location: Location,
     pub cause: Cause,
+    pub line: ShownLine,
 }
 
 /// Where something stands: a section by its number, as `llvm-readelf -S` has it, and a byte of it. Section 0 is the file as a whole.
@@ -20,6 +24,10 @@ pub struct Location {
     pub section: usize,
     pub offset: usize,
 }
+
+/// The line of a source at which something is wrong, as it is shown, where it is known.
+#[derive(Debug, Drop)]
+pub struct ShownLine(pub Option<String>);
 
 /// What is wrong with an object file. Names are cut and escaped for a terminal.
 #[derive(Debug, Drop, Error)]
@@ -110,12 +118,52 @@ pub enum Cause {
     RelocatedData,
 }
 
+impl Cause {
+    /// Whether an instruction is refused.
+    fn is_of_instruction(&self) -> bool {
+        match self {
+            Cause::UnknownRelocation(_)
+            | Cause::NotWide
+            | Cause::NotCall
+            | Cause::Unresolved(_)
+            | Cause::OtherAddress(_)
+            | Cause::CallOut
+            | Cause::HelperByBtf
+            | Cause::Atomic
+            | Cause::PacketAccess => true,
+            _ => false,
+        }
+    }
+}
+
 impl ObjectError {
     /// The refusal of something at a byte of a section.
     pub fn at(section: usize, offset: usize, cause: Cause) -> Self {
         ObjectError {
             location: Location { section, offset },
             cause,
+            line: ShownLine(None),
+        }
+    }
+
+    /// The same refusal; that of an instruction has the line of which this was made, where the file says it.
+    pub(crate) fn with_line(self, alloc: Global, bytes: &[u8]) -> Result<Self, AllocError>
+        ensures location { IfOk result (λ error. error.location ≡ self.location) }
+        ensures cause { IfOk result (λ error. error.cause ≡ self.cause) }
+    {
+        if !self.cause.is_of_instruction() {
+            return Ok(self);
+        }
+        match line_at(bytes, self.location) {
+            Ok(Some(line)) => {
+                let words = line.in_words(alloc)?;
+                Ok(ObjectError {
+                    line: ShownLine(Some(words)),
+                    ..self
+                })
+            }
+            // Lines that can't be read are no reason for another refusal.
+            Ok(None) | Err(_) => Ok(self),
         }
     }
 }
@@ -138,6 +186,15 @@ impl From<AllocError> for ObjectError {
 impl<T: Drop> From<AllocFailed<T>> for ObjectError {
     fn from(failed: AllocFailed<T>) -> Self {
         ObjectError::from(AllocError::from(failed))
+    }
+}
+
+impl fmt::Display for ShownLine {
+    fn fmt<W: fmt::Write>(&self, f: &mut fmt::Formatter<W>) -> fmt::Result {
+        match &self.0 {
+            Some(words) => write!(f, " ({words})"),
+            None => Ok(()),
+        }
     }
 }
 

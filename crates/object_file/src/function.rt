@@ -12,6 +12,13 @@ pub(crate) struct Function {
     pub size: usize,
 }
 
+impl Function {
+    /// The refusal of something at a byte of the function.
+    pub fn refused(&self, at: usize, cause: Cause) -> ObjectError {
+        ObjectError::at(self.section, self.begin.saturating_add(at), cause)
+    }
+}
+
 /// Which functions are looked at: those that other files see, in one section, in all named by SEC, or in .text.
 #[derive(Clone, Copy)]
 enum Among {
@@ -145,27 +152,27 @@ pub(crate) struct Functions {
 }
 
 impl Functions {
-    /// The number of the function that begins at an offset of a section. It is added if it isn't known.
+    /// The number of the function that begins at an offset of a section, if there is one. It is added if it isn't known.
     pub fn number_of(
         &mut self,
         object: &Object<'_>,
         symbols: &Symbols<'_>,
         section: usize,
         begin: usize,
-    ) -> Result<usize, ObjectError> {
+    ) -> Result<Option<usize>, ObjectError> {
         for (number, known) in self.list.iter().enumerate() {
             if known.section == section && known.begin == begin {
-                return Ok(number);
+                return Ok(Some(number));
             }
         }
         if self.list.len() >= MOST_FUNCTIONS {
             return Err(ObjectError::at(section, begin, Cause::TooManyFunctions));
         }
         let Some(function) = beginning_at(object, symbols, section, begin)? else {
-            return Err(ObjectError::at(section, begin, Cause::CallOut));
+            return Ok(None);
         };
         self.list.push(function)?;
-        Ok(self.list.len() - 1)
+        Ok(Some(self.list.len() - 1))
     }
 }
 

@@ -15,10 +15,12 @@ mod map;
 mod object;
 mod program;
 mod relocation;
+mod source_line;
 mod text;
 
-pub use error::{Cause, Location, ObjectError};
-pub use lines::{SourceLine, SourceLines, TextLines, lines_of};
+pub use error::{Cause, Location, ObjectError, ShownLine};
+pub use lines::{SourceLines, TextLines, lines_of};
 pub use map::Map;
 pub use program::{Program, program_of};
+pub use source_line::SourceLine;
 pub use text::{Call, Text};

@@ -1,11 +1,12 @@
 //! Lines of sources of which instructions were made: the line information of a section .BTF.ext (the kernel's docs/bpf/btf.rst).
 
-ghost use Rattle.std.specs.Prelude.{◌≤◌};
+ghost use Rattle.std.specs.Prelude.{◌≤◌, IfSome};
 
 use crate::btf::names_of;
-use crate::error::{Cause, ObjectError};
+use crate::error::{Cause, Location, ObjectError};
 use crate::field::{part_at, u16_at, u32_at};
-use crate::object::{Object, Section, front_at};
+use crate::object::{Object, Section, front_at, name_at};
+use crate::source_line::SourceLine;
 use crate::text::Text;
 use std::alloc::{AllocError, Global};
 
@@ -14,14 +15,6 @@ const MOST_RECORDS: usize = 65536;
 
 /// The least bytes of a record.
 const RECORD: usize = 16;
-
-/// A line of a source: the path of its file, its text, and its number from 1 on.
-#[derive(Clone, Copy, Debug, PartialEq, Eq)]
-pub struct SourceLine<'a> {
-    pub file: &'a [u8],
-    pub text: &'a [u8],
-    pub number: u32,
-}
 
 /// Of each slot of a text the number of its line, where one is known.
 #[derive(Drop)]
@@ -47,26 +40,35 @@ pub fn lines_of<'a>(
         lines: Vec::new(alloc),
         texts: no_lines(alloc, texts)?,
     };
-    let object = Object::read(bytes)?;
-    let (Some(section), Some(types)) = (object.named(b".BTF.ext")?, object.named(b".BTF")?) else {
+    let Some(source) = Records::of(Object::read(bytes)?)? else {
         return Ok(found);
     };
-    let Some(names) = names_of(object.contents(&types)?) else {
-        return Err(ObjectError::at(types.number, 0, Cause::BadBtf));
-    };
-    let Some(info) = line_info(object.contents(&section)?) else {
-        return Err(ObjectError::at(section.number, 0, Cause::BadBtf));
-    };
-    let source = Records {
-        object,
-        number: section.number,
-        names,
-    };
-    add_sections(&source, info, texts, &mut found)?;
+    add_sections(&source, texts, &mut found)?;
     for of_text in &mut found.texts {
         spread(of_text.slots.as_mut_slice());
     }
     Ok(found)
+}
+
+/// The line of which the instruction at a byte of a section was made, if the file says it: that of the last record of the section at
+/// the byte or before it.
+pub(crate) fn line_at<'a>(
+    bytes: &'a [u8],
+    location: Location,
+) -> Result<Option<SourceLine<'a>>, ObjectError> {
+    if location.section == 0 {
+        return Ok(None);
+    }
+    let object = Object::read(bytes)?;
+    let section = object.section(location.section)?;
+    let Some(source) = Records::of(object)? else {
+        return Ok(None);
+    };
+    let found = source.last_at(object.name(&section)?, location.offset);
+    match found.and_then(|record| line_in(&source, record)) {
+        Some((_, line)) => Ok(Some(line)),
+        None => Ok(None),
+    }
 }
 
 /// No line of any slot of texts.
@@ -95,34 +97,105 @@ fn line_info(contents: &[u8]) -> Option<&[u8]> {
     )
 }
 
-/// Where records stand: the file, the number of their section, and the names of the file's BTF.
+/// Records of lines: the file, the number of their section, the line information of it, and the names of the file's BTF.
 #[derive(Clone, Copy)]
 struct Records<'a> {
     object: Object<'a>,
     number: usize,
+    info: &'a [u8],
     names: &'a [u8],
 }
 
-impl Records<'_> {
+impl<'a> Records<'a> {
+    /// The records of an object, if it has any.
+    fn of(object: Object<'a>) -> Result<Option<Self>, ObjectError> {
+        let Some(section) = object.named(b".BTF.ext")? else {
+            return Ok(None);
+        };
+        let Some(types) = object.named(b".BTF")? else {
+            return Ok(None);
+        };
+        let Some(names) = names_of(object.contents(&types)?) else {
+            return Err(ObjectError::at(types.number, 0, Cause::BadBtf));
+        };
+        let Some(info) = line_info(object.contents(&section)?) else {
+            return Err(ObjectError::at(section.number, 0, Cause::BadBtf));
+        };
+        Ok(Some(Records {
+            object,
+            number: section.number,
+            info,
+            names,
+        }))
+    }
+
     fn bad(&self) -> ObjectError {
         ObjectError::at(self.number, 0, Cause::BadBtf)
     }
+
+    /// The last record of a section with a name at an offset or before it, of those that name a line.
+    fn last_at(&self, section: &[u8], offset: usize) -> Option<&'a [u8]> {
+        let size = record_size(self.info)?;
+        let mut found = None;
+        let mut at: usize = 4;
+        for _section in 0..self.info.len() / 8 {
+            let Some((name, records)) = section_at(self.info, at, size) else {
+                break;
+            };
+            if name_at(self.names, name) == Some(section) {
+                found = last_among(records, size, offset).or(found);
+            }
+            at = at.saturating_add(8).saturating_add(records.len());
+        }
+        found
+    }
+}
+
+/// The bytes of a record, with which line information begins.
+fn record_size(info: &[u8]) -> Option<usize>
+    ensures { IfSome result (λ size. 16 ≤ size) }
+{
+    let size = u32_at(info, 0)? as usize;
+    if size < RECORD {
+        return None;
+    }
+    Some(size)
+}
+
+/// The last of some records at an offset or before it, of those that name a line.
+fn last_among(records: &[u8], size: usize, offset: usize) -> Option<&[u8]>
+    requires { 1 ≤ size }
+{
+    let mut found = None;
+    let mut begin = 0;
+    for record in records.chunks_exact(size) {
+        let at = u32_at(record, 0)? as usize;
+        if begin <= at && at <= offset && number_in(record)? > 0 {
+            found = Some(record);
+            begin = at;
+        }
+    }
+    found
+}
+
+/// The number of the line of a record. Line 0 is none.
+fn number_in(record: &[u8]) -> Option<u32> {
+    Some(u32_at(record, 12)? >> 10)
 }
 
 /// Adds the lines of all sections: after the size of a record, each has its name, how many records it has, and these.
 fn add_sections<'a>(
     source: &Records<'a>,
-    info: &[u8],
     texts: &[Text],
     found: &mut SourceLines<'a>,
 ) -> Result<(), ObjectError> {
+    let info = source.info;
     if info.is_empty() {
         return Ok(());
     }
-    let size = u32_at(info, 0).ok_or(source.bad())? as usize;
-    if size < RECORD {
+    let Some(size) = record_size(info) else {
         return Err(source.bad());
-    }
+    };
     let mut left = MOST_RECORDS;
     let mut at: usize = 4;
     for _section in 0..info.len() / 8 {
@@ -189,7 +262,7 @@ fn line_in<'a>(source: &Records<'a>, record: &[u8]) -> Option<(usize, SourceLine
     let line = SourceLine {
         file: front_at(source.names, u32_at(record, 4)? as usize)?,
         text: front_at(source.names, u32_at(record, 8)? as usize)?,
-        number: u32_at(record, 12)? >> 10,
+        number: number_in(record)?,
     };
     Some((u32_at(record, 0)? as usize, line))
 }

@@ -24,8 +24,19 @@ pub struct Program {
     pub maps: Vec<Map>,
 }
 
-/// The program of an object file. Of several functions the one that a name chooses is taken, its own or its section's.
+/// The program of an object file. Of several functions the one that a name chooses is taken, its own or its section's. A refusal at an
+/// instruction has the line of which it was made, where the file says it.
 pub fn program_of(alloc: Global, bytes: &[u8], name: Option<&str>) -> Result<Program, ObjectError>
+    ensures { IfOk result (IsProgramOf bytes.now) }
+{
+    match program_in(alloc, bytes, name) {
+        Ok(program) => Ok(program),
+        Err(error) => Err(error.with_line(alloc, bytes)?),
+    }
+}
+
+/// The same, with no line in a refusal.
+fn program_in(alloc: Global, bytes: &[u8], name: Option<&str>) -> Result<Program, ObjectError>
     ensures { IfOk result (IsProgramOf bytes.now) }
 {
     let object = Object::read(bytes)?;
@@ -63,8 +74,7 @@ fn texts_of(
         };
         let text = relocated(alloc, tables, function, &mut functions)?;
         if let Some((at, cause)) = first_missing(text.bytes.as_slice()) {
-            let offset = function.begin.saturating_add(at);
-            return Err(ObjectError::at(function.section, offset, cause));
+            return Err(function.refused(at, cause));
         }
         texts.push(text)?;
     }

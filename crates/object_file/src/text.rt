@@ -250,13 +250,15 @@ fn relocate_call(
     let slot = at / 8;
     let distance = match call_at(text.bytes.as_slice(), at) {
         Some(distance) if at % 8 == 0 && !text.has_call(slot) => distance,
-        _ => return Err(ObjectError::at(function.section, at, Cause::NotCall)),
+        _ => return Err(function.refused(at, Cause::NotCall)),
     };
     let Some(begin) = moved(symbol.value, distance) else {
-        return Err(ObjectError::at(function.section, at, Cause::CallOut));
+        return Err(function.refused(at, Cause::CallOut));
     };
-    let called = functions.number_of(&tables.object, &tables.symbols, symbol.section, begin)?;
-    text.add_call(slot, called)
+    match functions.number_of(&tables.object, &tables.symbols, symbol.section, begin)? {
+        Some(called) => text.add_call(slot, called),
+        None => Err(function.refused(at, Cause::CallOut)),
+    }
 }
 
 /// The distance of the call of a function at an offset of a text, in slots: one more than its immediate.
@@ -305,9 +307,12 @@ fn add_calls(
             continue;
         }
         let Some(begin) = called_from(function.begin, at, distance) else {
-            return Err(ObjectError::at(function.section, at, Cause::CallOut));
+            return Err(function.refused(at, Cause::CallOut));
         };
         let called = functions.number_of(&tables.object, &tables.symbols, function.section, begin)?;
+        let Some(called) = called else {
+            return Err(function.refused(at, Cause::CallOut));
+        };
         text.add_call(slot, called)?;
     }
     Ok(())

@@ -8,9 +8,9 @@ ghost use Rattle.object_file.specs.Maps.{AreShapedMaps};
 
 mod not_taken;
 
-use inlining::{Function, Inlined, NotInlined, inlined};
+use inlining::{Function, Inlined, NotInlined, Stop, inlined};
 pub use not_taken::NotTaken;
-use object_file::{Map, SourceLine, Text, TextLines, lines_of, program_of};
+use object_file::{Map, ShownLine, SourceLine, Text, TextLines, lines_of, program_of};
 use std::alloc::{AllocError, Global};
 
 /// The text of a program, without calls of functions, and its maps.
@@ -40,6 +40,26 @@ impl ObjectText {
     }
 }
 
+impl ObjectLines<'_> {
+    /// The line of a slot, as it is shown after a refusal.
+    pub fn shown_at(&self, alloc: Global, slot: usize) -> Result<ShownLine, AllocError> {
+        let number = self.of_slots.get(slot).copied().flatten();
+        shown_line(alloc, self.lines.as_slice(), number)
+    }
+}
+
+/// The line of a number, as it is shown after a refusal.
+fn shown_line(
+    alloc: Global,
+    lines: &[SourceLine<'_>],
+    number: Option<u32>,
+) -> Result<ShownLine, AllocError> {
+    match number.and_then(|number| lines.get(number as usize)) {
+        Some(line) => Ok(ShownLine(Some(line.in_words(alloc)?))),
+        None => Ok(ShownLine(None)),
+    }
+}
+
 /// The text of the program of an object file: of the function that a name chooses, its own or its section's, where there are
 /// several.
 pub fn text_of(alloc: Global, bytes: &[u8], name: Option<&str>) -> Result<ObjectText, NotTaken>
@@ -47,7 +67,7 @@ pub fn text_of(alloc: Global, bytes: &[u8], name: Option<&str>) -> Result<Object
     ensures maps { IfOk result (λ object. AreShapedMaps object.maps.items) }
 {
     let program = program_of(alloc, bytes, name)?;
-    let whole = whole_of(alloc, program.texts.as_slice())?;
+    let whole = whole_of(alloc, bytes, program.texts.as_slice())?;
     Ok(ObjectText {
         text: whole.text,
         maps: program.maps,
@@ -61,7 +81,7 @@ pub fn text_with_lines<'a>(
     name: Option<&str>,
 ) -> Result<ObjectLines<'a>, NotTaken> {
     let program = program_of(alloc, bytes, name)?;
-    let whole = whole_of(alloc, program.texts.as_slice())?;
+    let whole = whole_of(alloc, bytes, program.texts.as_slice())?;
     let found = lines_of(alloc, bytes, program.texts.as_slice())?;
     let mut of_slots = Vec::new(alloc);
     for origin in &whole.origins {
@@ -84,7 +104,7 @@ fn line_at(lines: &[TextLines], function: usize, slot: usize) -> Option<u32> {
 }
 
 /// One text of a function and of those that it calls, the first of these.
-fn whole_of(alloc: Global, texts: &[Text]) -> Result<Inlined, NotTaken>
+fn whole_of(alloc: Global, bytes: &[u8], texts: &[Text]) -> Result<Inlined, NotTaken>
     ensures { IfOk result (λ whole. IsWholeText whole.text.items) }
 {
     let mut all = Vec::new(alloc);
@@ -105,13 +125,29 @@ fn whole_of(alloc: Global, texts: &[Text]) -> Result<Inlined, NotTaken>
     }
     match inlined(alloc, functions.as_slice()) {
         Ok(whole) => Ok(whole),
-        Err(error) => Err(not_inlined(texts, error)),
+        Err(error) => Err(not_inlined(alloc, bytes, texts, error)?),
     }
 }
 
-/// A refusal of the inlining, at its byte of the file.
-fn not_inlined(texts: &[Text], error: NotInlined) -> NotTaken {
+/// A refusal of the inlining, at its byte of the file, with its line where the file says it.
+fn not_inlined(
+    alloc: Global,
+    bytes: &[u8],
+    texts: &[Text],
+    error: NotInlined,
+) -> Result<NotTaken, AllocError> {
+    if let Stop::OutOfMemory(error) = error.stop {
+        return Err(error);
+    }
     let begin = texts.get(error.function).map_or(0, |text| text.begin);
     let at = error.slot.saturating_mul(8).saturating_add(begin);
-    NotTaken::Inlining(at, error)
+    let line = match lines_of(alloc, bytes, texts) {
+        Ok(found) => {
+            let number = line_at(found.texts.as_slice(), error.function, error.slot);
+            shown_line(alloc, found.lines.as_slice(), number)?
+        }
+        // Lines that can't be read are no reason for another refusal.
+        Err(_) => ShownLine(None),
+    };
+    Ok(NotTaken::Inlining(at, error, line))
 }

@@ -6,6 +6,6 @@ u64 count;
 SEC("xdp")
 int add(const u32 *context)
 {
-    __sync_fetch_and_add(&count, *context);
+    __sync_fetch_and_add(&count, *context); /* refused here */
     return 0;
 }

@@ -6,5 +6,5 @@ unsigned long long load_byte(void *packet, unsigned long long offset) asm("llvm.
 SEC("socket")
 int load(void *packet)
 {
-    return load_byte(packet, 9);
+    return load_byte(packet, 9); /* refused here */
 }

@@ -4,7 +4,7 @@
 static __noinline u64 sum(u64 number)
 {
     if (number > 7)
-        return sum(number >> 1) * 3 + sum(number >> 2);
+        return sum(number >> 1) * 3 + sum(number >> 2); /* refused here */
     return number;
 }
 

@@ -6,5 +6,5 @@ int elsewhere(u32 number);
 SEC("xdp")
 int call(const u32 *context)
 {
-    return elsewhere(*context) + 1;
+    return elsewhere(*context) + 1; /* refused here */
 }
