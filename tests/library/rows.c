@@ -297,8 +297,29 @@ static void test_four_pages_in_three_frames(void)
     bpf_host_free(&host);
 }
 
+/* Fifteen tenants have tables of 1 MiB that are equal: 3,840 pages, which need the frames of one table. */
+static void test_equal_tables(void)
+{
+    struct bpf_host host;
+    uint8_t value[16] = {1};
+    open_host(&host, 4096, 15);
+    for (uint32_t tenant = 0; tenant < 15; tenant++) {
+        CHECK(make_map(&host, tenant, 16, 65536), 0);
+        for (uint32_t page = 0; page < 256; page++) {
+            value[1] = (uint8_t)page;
+            CHECK(bpf_host_update(&host, tenant, 0, page * 256, value, sizeof value, &last_refused), 0);
+        }
+    }
+    struct bpf_host_counters c = after_visits(&host, 2 * 3840);
+    CHECK(c.pages_shared, 256);
+    CHECK(c.pages_sharing, 3840 - 256);
+    CHECK(c.frames_free, 4096 - 1 - 256);
+    bpf_host_free(&host);
+}
+
 void test_rows_of_merging(void)
 {
+    test_equal_tables();
     test_runs_break_a_shared_page();
     test_merge_in_an_open_run();
     test_scarce_frames();
