@@ -64,10 +64,7 @@ impl fmt::Display for Other {
     fn fmt<W: fmt::Write>(&self, f: &mut fmt::Formatter<W>) -> fmt::Result {
         match *self {
             Other::Long => write!(f, "it has more than {MOST} bytes"),
-            Other::Elf => write!(
-                f,
-                "it is an ELF object; lower its program by `bpf_object --lower`"
-            ),
+            Other::Elf => write!(f, "it is an ELF object; lower its program by `bpf_object`"),
             Other::Marked => write!(
                 f,
                 "it begins with a byte order mark; write hex digits as plain ASCII"
