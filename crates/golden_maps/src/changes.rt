@@ -1,7 +1,7 @@
 //! Texts that a program becomes by a change.
 
+use crate::fixture::Fixture;
 use crate::runs::is_refused_or_agrees;
-use crate::setting::Setting;
 use std::alloc::{AllocError, Global};
 use tests_inputs::{BITS, flip};
 
@@ -9,9 +9,9 @@ use tests_inputs::{BITS, flip};
 const SMALL: usize = 65536;
 
 /// Whether the maps are so small that a program is changed in every way.
-pub(crate) fn is_small(setting: &Setting) -> bool {
+pub(crate) fn is_small(fixture: &Fixture) -> bool {
     let mut bytes: usize = 0;
-    for shape in setting.shapes() {
+    for shape in fixture.shapes() {
         if let Some(shape) = shape {
             let size = (shape.value_size as usize).saturating_mul(shape.entries as usize);
             bytes = bytes.saturating_add(size);
@@ -24,27 +24,27 @@ pub(crate) fn is_small(setting: &Setting) -> bool {
 /// refused or goes as on the plain machine; else `None`.
 pub(crate) fn texts_that_agree(
     alloc: Global,
-    setting: &Setting,
+    fixture: &Fixture,
     text: &[u8],
 ) -> Result<Option<usize>, AllocError> {
-    if !cuts_agree(alloc, setting, text) || !flips_agree(alloc, setting, text)? {
+    if !cuts_agree(alloc, fixture, text) || !flips_agree(alloc, fixture, text)? {
         return Ok(None);
     }
     Ok(Some(text.len().saturating_mul(1 + BITS.len())))
 }
 
 /// Whether each beginning of a program is refused or goes as on the plain machine.
-fn cuts_agree(alloc: Global, setting: &Setting, text: &[u8]) -> bool {
-    (0..text.len()).all(|length| is_refused_or_agrees(alloc, setting, &text[..length]))
+fn cuts_agree(alloc: Global, fixture: &Fixture, text: &[u8]) -> bool {
+    (0..text.len()).all(|length| is_refused_or_agrees(alloc, fixture, &text[..length]))
 }
 
 /// Whether a program is refused or goes as on the plain machine with any bit flipped.
-fn flips_agree(alloc: Global, setting: &Setting, text: &[u8]) -> Result<bool, AllocError> {
+fn flips_agree(alloc: Global, fixture: &Fixture, text: &[u8]) -> Result<bool, AllocError> {
     let mut changed = text.to_vec(alloc)?;
     for at in 0..text.len() {
         for bit in BITS {
             flip(changed.as_mut_slice(), at, bit);
-            if !is_refused_or_agrees(alloc, setting, changed.as_slice()) {
+            if !is_refused_or_agrees(alloc, fixture, changed.as_slice()) {
                 return Ok(false);
             }
             flip(changed.as_mut_slice(), at, bit);

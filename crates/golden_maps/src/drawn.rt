@@ -1,7 +1,7 @@
 //! Texts that a program becomes by a few changes that are drawn.
 
+use crate::fixture::Fixture;
 use crate::runs::{Judgement, found_of};
-use crate::setting::Setting;
 use std::alloc::{AllocError, Global};
 use std::io;
 use tests_inputs::{BITS, Draws, flip};
@@ -157,13 +157,13 @@ impl Drawn {
     pub(crate) fn agree(
         &mut self,
         alloc: Global,
-        setting: &Setting,
+        fixture: &Fixture,
         text: &[u8],
         count: u32,
     ) -> Result<bool, AllocError> {
         for _ in 0..count {
             let drawn = self.text(alloc, text)?;
-            match found_of(alloc, setting, drawn.as_slice()) {
+            match found_of(alloc, fixture, drawn.as_slice()) {
                 Judgement::RefusedByDecoder => {
                     self.refused_by_decoder = self.refused_by_decoder.saturating_add(1);
                 }

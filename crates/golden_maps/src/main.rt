@@ -10,11 +10,11 @@
 
 mod changes;
 mod drawn;
+mod fixture;
 mod offsets;
 mod pages;
 mod row;
 mod runs;
-mod setting;
 
 use changes::{is_small, texts_that_agree};
 use drawn::Drawn;
@@ -63,10 +63,10 @@ struct Changed {
 impl OtherTexts for Changed {
     /// Compares the texts that a row's program becomes, and counts those that go alike.
     fn compare_changed(&mut self, alloc: Global, row: &Row) -> Result<Finding, AllocError> {
-        if !is_small(&row.setting) {
+        if !is_small(&row.fixture) {
             return Ok(Finding::Agrees);
         }
-        match texts_that_agree(alloc, &row.setting, row.text.as_slice())? {
+        match texts_that_agree(alloc, &row.fixture, row.text.as_slice())? {
             Some(texts) => {
                 self.texts = self.texts.saturating_add(texts);
                 Ok(Finding::Agrees)
@@ -86,11 +86,11 @@ struct Drawing {
 impl OtherTexts for Drawing {
     /// Draws texts of a row's program, where it is accepted on small maps.
     fn compare_changed(&mut self, alloc: Global, row: &Row) -> Result<Finding, AllocError> {
-        if !is_small(&row.setting) || matches!(row.wanted, Outcome::Refused(_)) {
+        if !is_small(&row.fixture) || matches!(row.wanted, Outcome::Refused(_)) {
             return Ok(Finding::Agrees);
         }
         let text = row.text.as_slice();
-        if self.drawn.agree(alloc, &row.setting, text, self.texts)? {
+        if self.drawn.agree(alloc, &row.fixture, text, self.texts)? {
             Ok(Finding::Agrees)
         } else {
             Ok(Finding::DiffersChanged)

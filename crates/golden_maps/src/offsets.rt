@@ -1,8 +1,8 @@
 //! Loads of one byte by its address in a map's first value, at the offsets up to the first one after it.
 
-use crate::row::{Row, setting_of};
+use crate::fixture::Value;
+use crate::row::{Row, fixture_of};
 use crate::runs::{Outcome, agrees};
-use crate::setting::Value;
 use host_types::Refused;
 use host_types::rule::OUTSIDE_MAP;
 use std::alloc::{AllocError, Global};
@@ -71,7 +71,7 @@ fn row_at(alloc: Global, shape: &str, size: u32, offset: u32) -> Option<Row> {
     values.push(value_of(alloc, size).ok()?).ok()?;
     Some(Row {
         text: load_at(alloc, offset).ok()?,
-        setting: setting_of(alloc, shape, values, Vec::new(alloc))?,
+        fixture: fixture_of(alloc, shape, values, Vec::new(alloc))?,
         wanted: wanted_at(size, offset),
         after: Vec::new(alloc),
     })

@@ -1,6 +1,6 @@
 //! The memory of two tenants with the same maps, whose pages lie on frames of their own or share them.
 
-use crate::setting::{Setting, Value};
+use crate::fixture::{Fixture, Value};
 use host_types::{MapNo, Shape};
 use map_helpers::{update, update_needs};
 use page_table::Memory;
@@ -61,14 +61,14 @@ fn pages_for_zero_frame(maps: &[Option<ArrayMap>], pages: Pages) -> usize {
 /// made so.
 pub(crate) fn memory_of(
     alloc: Global,
-    setting: &Setting,
+    fixture: &Fixture,
     maps: &[Option<ArrayMap>],
     pages: Pages,
 ) -> Option<Memory> {
     let count = page_count(maps).saturating_mul(TENANTS as usize);
     let frames = u32::try_from(count.saturating_add(ROOM).saturating_add(1)).ok()?;
     let mut memory = Memory::new(alloc, frames, TENANTS, pages.options()).ok()?;
-    if !fill(&mut memory, setting) || !share(&mut memory, count, pages) {
+    if !fill(&mut memory, fixture) || !share(&mut memory, count, pages) {
         return None;
     }
     if memory.zero_pages() as usize == pages_for_zero_frame(maps, pages) {
@@ -79,11 +79,11 @@ pub(crate) fn memory_of(
 }
 
 /// Makes the maps of both tenants. It answers whether all were made.
-fn fill(memory: &mut Memory, setting: &Setting) -> bool {
+fn fill(memory: &mut Memory, fixture: &Fixture) -> bool {
     let mut all = true;
     for tenant in 0..TENANTS {
-        all &= make_maps(memory, tenant, setting.shapes());
-        all &= put_values(memory, tenant, setting.values());
+        all &= make_maps(memory, tenant, fixture.shapes());
+        all &= put_values(memory, tenant, fixture.values());
     }
     all
 }

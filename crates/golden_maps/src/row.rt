@@ -1,7 +1,7 @@
 //! A row: what a program finds, and what it is to do.
 
+use crate::fixture::{Fixture, Value};
 use crate::runs::Outcome;
-use crate::setting::{Setting, Value};
 use golden_compared::{shapes_of, text_of};
 use host_types::Refused;
 use std::alloc::Global;
@@ -10,7 +10,7 @@ use std::alloc::Global;
 #[derive(Drop)]
 pub(crate) struct Row {
     pub text: Vec<u8>,
-    pub setting: Setting,
+    pub fixture: Fixture,
     pub wanted: Outcome,
     pub after: Vec<Value>,
 }
@@ -28,7 +28,7 @@ impl Row {
         let after = values_of(alloc, texts.next()?)?;
         Some(Row {
             text,
-            setting: setting_of(alloc, shapes, values, context)?,
+            fixture: fixture_of(alloc, shapes, values, context)?,
             wanted,
             after,
         })
@@ -36,14 +36,14 @@ impl Row {
 }
 
 /// What a run finds, where the shapes of its maps are given between spaces. `None` where memory ran out.
-pub(crate) fn setting_of(
+pub(crate) fn fixture_of(
     alloc: Global,
     shapes: &str,
     values: Vec<Value>,
     context: Vec<u8>,
-) -> Option<Setting> {
+) -> Option<Fixture> {
     match shapes_of(alloc, shapes) {
-        Ok(shapes) => Some(Setting::new(shapes, values, context)),
+        Ok(shapes) => Some(Fixture::new(shapes, values, context)),
         Err(_) => None,
     }
 }

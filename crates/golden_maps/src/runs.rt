@@ -2,9 +2,9 @@
 
 ghost use Rattle.verifier.specs.Subject.{IsContextSize};
 
+use crate::fixture::{Fixture, Maps, put_all};
 use crate::pages::{has_maps, memory_of};
 use crate::row::Row;
-use crate::setting::{Maps, Setting, put_all};
 use admission::release;
 use bpf_decode::decode;
 use golden_compared::verdicts_agree;
@@ -38,26 +38,26 @@ pub(crate) enum Outcome {
 }
 
 /// The size of a row's context; one that no context has is 0.
-fn context_size(setting: &Setting) -> u32
+fn context_size(fixture: &Fixture) -> u32
     ensures { IsContextSize result }
 {
-    match u32::try_from(setting.context().len()) {
+    match u32::try_from(fixture.context().len()) {
         Ok(size) if is_context_size(size) => size,
         _ => 0,
     }
 }
 
 /// A text as `verify` verifies it.
-fn verdict(alloc: Global, setting: &Setting, text: &[u8]) -> Result<Verified, Refused> {
+fn verdict(alloc: Global, fixture: &Fixture, text: &[u8]) -> Result<Verified, Refused> {
     let program = decode(alloc, text)?;
-    verify(alloc, program, setting.shapes(), context_size(setting))
+    verify(alloc, program, fixture.shapes(), context_size(fixture))
 }
 
 /// Whether both passes of the plain verifier say of a text what `verify` said. What the decoder refuses
 /// they don't verify.
 fn is_verdict_alike(
     alloc: Global,
-    setting: &Setting,
+    fixture: &Fixture,
     text: &[u8],
     verified: &Result<Verified, Refused>,
 ) -> bool {
@@ -69,8 +69,8 @@ fn is_verdict_alike(
     verdicts_agree(
         alloc,
         text,
-        setting.shapes(),
-        context_size(setting),
+        fixture.shapes(),
+        context_size(fixture),
         verified,
     )
 }
@@ -78,13 +78,13 @@ fn is_verdict_alike(
 /// How a text goes on the plain machine, with the machine as the run left it. `None` if it doesn't end.
 fn on_the_plain_machine(
     alloc: Global,
-    setting: &Setting,
+    fixture: &Fixture,
     text: &[u8],
 ) -> Option<(RunReply, Machine)> {
     if text.len() % 8 != 0 {
         return None;
     }
-    let mut machine = setting.machine(alloc)?;
+    let mut machine = fixture.machine(alloc)?;
     match machine.run(text, STEPS) {
         Ending::Exited { number, steps } => Some((RunReply { ret: number, steps }, machine)),
         _ => None,
@@ -125,19 +125,19 @@ fn ends_as(
 /// its instructions. It answers how it goes, and the maps that it leaves.
 fn gone(
     alloc: Global,
-    setting: &Setting,
+    fixture: &Fixture,
     text: &[u8],
     program: &Verified,
 ) -> Option<(RunReply, Machine)> {
-    let (reply, machine) = on_the_plain_machine(alloc, setting, text)?;
-    let first = setting.maps(alloc)?;
+    let (reply, machine) = on_the_plain_machine(alloc, fixture, text)?;
+    let first = fixture.maps(alloc)?;
     let maps = [machine.maps(), first.as_slice()];
     if reply.steps > program.instructions() {
         return None;
     }
     for pages in PAGE_INDICES {
-        let memory = memory_of(alloc, setting, first.as_slice(), pages)?;
-        if !ends_as(alloc, memory, program, setting.context(), reply, maps) {
+        let memory = memory_of(alloc, fixture, first.as_slice(), pages)?;
+        if !ends_as(alloc, memory, program, fixture.context(), reply, maps) {
             return None;
         }
     }
@@ -145,9 +145,9 @@ fn gone(
 }
 
 /// Whether a text is refused, or goes as on the plain machine.
-pub(crate) fn is_refused_or_agrees(alloc: Global, setting: &Setting, text: &[u8]) -> bool {
-    match verdict(alloc, setting, text) {
-        Ok(program) => gone(alloc, setting, text, &program).is_some(),
+pub(crate) fn is_refused_or_agrees(alloc: Global, fixture: &Fixture, text: &[u8]) -> bool {
+    match verdict(alloc, fixture, text) {
+        Ok(program) => gone(alloc, fixture, text, &program).is_some(),
         Err(refused) => refused != Refused::OUT_OF_MEMORY,
     }
 }
@@ -163,13 +163,13 @@ pub(crate) enum Judgement {
 }
 
 /// What is found of a text.
-pub(crate) fn found_of(alloc: Global, setting: &Setting, text: &[u8]) -> Judgement {
-    let verified = verdict(alloc, setting, text);
-    if !is_verdict_alike(alloc, setting, text, &verified) {
+pub(crate) fn found_of(alloc: Global, fixture: &Fixture, text: &[u8]) -> Judgement {
+    let verified = verdict(alloc, fixture, text);
+    if !is_verdict_alike(alloc, fixture, text, &verified) {
         return Judgement::Differs;
     }
     match verified {
-        Ok(program) if gone(alloc, setting, text, &program).is_some() => Judgement::Ran,
+        Ok(program) if gone(alloc, fixture, text, &program).is_some() => Judgement::Ran,
         Err(refused) if refused.number <= CUT_WIDE => Judgement::RefusedByDecoder,
         Err(refused) if refused != Refused::OUT_OF_MEMORY => Judgement::RefusedByVerifier,
         _ => Judgement::Differs,
@@ -187,7 +187,7 @@ fn are_same(maps: &[Option<ArrayMap>], others: &[Option<ArrayMap>]) -> bool {
 
 /// Whether the maps that a row wants are these.
 fn are_wanted(alloc: Global, row: &Row, maps: &[Option<ArrayMap>]) -> bool {
-    match row.setting.maps(alloc) {
+    match row.fixture.maps(alloc) {
         Some(wanted) => are_put(wanted, row, maps),
         None => false,
     }
@@ -200,7 +200,7 @@ fn are_put(mut wanted: Maps, row: &Row, maps: &[Option<ArrayMap>]) -> bool {
 
 /// Whether a program that is accepted answers this, and leaves the maps that its row wants.
 fn goes_as(alloc: Global, row: &Row, program: &Verified, wanted: RunReply) -> bool {
-    match gone(alloc, &row.setting, row.text.as_slice(), program) {
+    match gone(alloc, &row.fixture, row.text.as_slice(), program) {
         Some((reply, machine)) => reply == wanted && are_wanted(alloc, row, machine.maps()),
         None => false,
     }
@@ -220,6 +220,6 @@ fn is_as(alloc: Global, row: &Row, verified: &Result<Verified, Refused>) -> bool
 /// Whether a program goes as its row says, and the plain verifier says the same of it.
 pub(crate) fn agrees(alloc: Global, row: &Row) -> bool {
     let text = row.text.as_slice();
-    let verified = verdict(alloc, &row.setting, text);
-    is_as(alloc, row, &verified) && is_verdict_alike(alloc, &row.setting, text, &verified)
+    let verified = verdict(alloc, &row.fixture, text);
+    is_as(alloc, row, &verified) && is_verdict_alike(alloc, &row.fixture, text, &verified)
 }

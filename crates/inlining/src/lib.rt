@@ -2,7 +2,7 @@
 //! docs/bpf/standardization/abi.rst: R1 to R5 are arguments, R6 to R9 are kept, each call has a stack of its own).
 #![tactic(auto)]
 
-mod copying;
+mod copy;
 mod expansion;
 mod frame;
 mod instruction;

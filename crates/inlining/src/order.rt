@@ -3,7 +3,7 @@
 ghost use Rattle.std.specs.Prelude.{◌≡◌, IfOk};
 ghost use Rattle.inlining.specs.Whole.{IsInlined, IsWholeText, first_text};
 
-use crate::copying::copied;
+use crate::copy::copied;
 use crate::expansion::{Begins, MOST_SLOTS};
 use crate::frame::{STACK, frame_of};
 use crate::instruction::{Insn, bit};

@@ -1,7 +1,7 @@
 //! The listing of a text: its instructions slot by slot, and what the verifier knows at each of them.
 #![tactic(auto)]
 
-mod differing;
+mod differences;
 mod edges;
 mod knowledge;
 mod lines;
@@ -14,7 +14,7 @@ mod shown;
 mod text;
 mod words;
 
-pub use differing::write_differing;
+pub use differences::write_differing;
 pub use knowledge::Knowledge;
 pub use lines::fold;
 pub use location::{Differing, Fact, Location, STACK_SLOTS};

@@ -6,7 +6,7 @@
 mod accept;
 mod blocks;
 mod cover;
-mod deciding;
+mod deciding_registers;
 mod emit;
 mod flows;
 mod laws;

@@ -10,7 +10,7 @@ ghost use Rattle.lowering.specs.Lowering.{subject_with, VerifierAccepts, IsRefus
 use crate::accept::accept;
 use crate::blocks::Blocks;
 use crate::cover::covers;
-use crate::deciding::Deciding;
+use crate::deciding_registers::DecidingRegisters;
 use crate::emit::emit;
 use crate::flows::Flows;
 use crate::order::{Position, in_loop_order};
@@ -151,7 +151,11 @@ fn rewritten(
     ) {
         Ok(lowered) => Ok(lowered),
         Err(stop) => {
-            let by_constants = Keeping::Constants(Deciding::of(alloc, &program, &parts.blocks)?);
+            let by_constants = Keeping::Constants(DecidingRegisters::of(
+                alloc,
+                &program,
+                &parts.blocks,
+            )?);
             match copied(
                 alloc,
                 text,

@@ -1,6 +1,6 @@
 //! Constants in registers, by which copies of blocks may be kept apart.
 
-use crate::deciding::{Deciding, Registers, in_set};
+use crate::deciding_registers::{DecidingRegisters, Registers, in_set};
 use crate::flows::Known;
 use verifier_kinds::Kind;
 
@@ -16,7 +16,7 @@ pub(crate) enum Keeping {
     /// By nothing: a loop has one copy for each turn.
     Turns,
     /// By the constants in the registers that decide something.
-    Constants(Deciding),
+    Constants(DecidingRegisters),
 }
 
 /// A number in the order of signed ones.

@@ -4,8 +4,8 @@
 
 mod options;
 mod scan;
-mod unmerging;
+mod unmerge;
 
 pub use options::set;
 pub use scan::visit;
-pub use unmerging::unmerge_all;
+pub use unmerge::unmerge_all;

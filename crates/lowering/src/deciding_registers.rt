@@ -67,29 +67,37 @@ fn before_insn(insn: &Insn, after: Registers) -> Registers {
 
 /// The registers that decide something at the beginning of each block, by its slot.
 #[derive(Drop)]
-pub(crate) struct Deciding {
+pub(crate) struct DecidingRegisters {
     by_slot: Vec<Registers>,
 }
 
-impl Deciding {
+impl DecidingRegisters {
     /// The deciding registers of the blocks of a text; all, if that takes too many rounds.
-    pub fn of(alloc: Global, program: &Program, blocks: &Blocks) -> Result<Deciding, AllocError> {
-        let mut deciding = Deciding::each(alloc, blocks.slots(), 0)?;
+    pub fn of(
+        alloc: Global,
+        program: &Program,
+        blocks: &Blocks,
+    ) -> Result<DecidingRegisters, AllocError> {
+        let mut deciding = DecidingRegisters::each(alloc, blocks.slots(), 0)?;
         for _ in 0..ROUNDS {
             if !deciding.round(program, blocks) {
                 return Ok(deciding);
             }
         }
-        Deciding::each(alloc, blocks.slots(), ALL)
+        DecidingRegisters::each(alloc, blocks.slots(), ALL)
     }
 
     /// The same registers for each of so many slots.
-    fn each(alloc: Global, slots: usize, registers: Registers) -> Result<Deciding, AllocError> {
+    fn each(
+        alloc: Global,
+        slots: usize,
+        registers: Registers,
+    ) -> Result<DecidingRegisters, AllocError> {
         let mut by_slot = Vec::new(alloc);
         for _ in 0..slots {
             by_slot.push(registers)?;
         }
-        Ok(Deciding { by_slot })
+        Ok(DecidingRegisters { by_slot })
     }
 
     /// The deciding registers at the beginning of the block at a slot.
@@ -100,7 +108,7 @@ impl Deciding {
         }
     }
 
-    /// The deciding registers of a way.
+    /// The deciding registers where an edge leads.
     fn on(&self, edge: Option<u16>) -> Registers {
         match edge {
             Some(slot) => self.at(slot),

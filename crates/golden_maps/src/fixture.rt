@@ -26,26 +26,26 @@ pub(crate) type Maps = Vec<Option<ArrayMap>>;
 
 /// The shapes of a tenant's maps, the values in them that aren't zero, and a run's context.
 #[derive(Drop)]
-pub(crate) struct Setting {
+pub(crate) struct Fixture {
     shapes: Vec<Option<Shape>>,
     values: Vec<Value>,
     context: Vec<u8>,
 }
 
-impl Model for Setting {
+impl Model for Fixture {
     ghost Value = { List (Option Shape) };
 
-    ghost view = { λ setting. setting.shapes.items };
+    ghost view = { λ fixture. fixture.shapes.items };
 
-    ghost invariant = { λ setting. AreShapes setting.shapes.items };
+    ghost invariant = { λ fixture. AreShapes fixture.shapes.items };
 }
 
-impl Setting {
+impl Fixture {
     /// What a run finds.
     pub(crate) fn new(shapes: Vec<Option<Shape>>, values: Vec<Value>, context: Vec<u8>) -> Self
         requires { AreShapes shapes.items }
     {
-        Setting {
+        Fixture {
             shapes,
             values,
             context,
