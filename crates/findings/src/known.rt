@@ -87,7 +87,7 @@ impl fmt::Display for Moved {
     }
 }
 
-/// The offsets of an address, which are kept 65536 more than they are.
+/// The offsets of an address, which are kept `OFFSET_BIAS` more than they are.
 #[derive(Clone, Copy)]
 struct Reach(Offsets);
 

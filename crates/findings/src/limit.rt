@@ -3,7 +3,7 @@ use crate::site::Site;
 use bpf_decode::{AluCode, Operation, Source, Width};
 use host_types::rule::{MISALIGNED, OUTSIDE_CONTEXT, OUTSIDE_MAP, OUTSIDE_STACK};
 use std::fmt;
-use verifier_kinds::{Kind, Offsets, Range};
+use verifier_kinds::{Kind, OFFSET_BIAS, Offsets, Range};
 
 /// What may stand in a register of the refused instruction.
 #[derive(Clone, Copy, Debug)]
@@ -124,14 +124,14 @@ impl Limit {
     }
 }
 
-/// The least of offsets, which are kept 65536 more than they are.
+/// The least of offsets, which are kept `OFFSET_BIAS` more than they are.
 pub fn least(offsets: Offsets) -> i64 {
-    i64::from(offsets.low) - 65536
+    i64::from(offsets.low) - i64::from(OFFSET_BIAS)
 }
 
 /// The greatest of them.
 pub fn greatest(offsets: Offsets) -> i64 {
-    i64::from(offsets.high) - 65536
+    i64::from(offsets.high) - i64::from(OFFSET_BIAS)
 }
 
 impl fmt::Display for Limit {

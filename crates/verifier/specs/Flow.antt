@@ -33,7 +33,7 @@ use Rattle.verifier_kinds.specs.declared.kind.Kind.TheVariants.{Scalar, Context,
 use Rattle.verifier_kinds.specs.declared.description.StackSlot.{StackSlot}
 use Rattle.verifier_kinds.specs.declared.description.StackSlot.TheVariants.{Kept, Bytes}
 use Rattle.verifier_kinds.specs.declared.description.Description.{Description}
-use Rattle.verifier_kinds.specs.Kinds.{constant, factor, full, normal, offsets_in, shape_at}
+use Rattle.verifier_kinds.specs.Kinds.{constant, factor, full, normal, offset_bias, offsets_in, shape_at}
 use Rattle.verifier_kinds.specs.Descriptions.{register_of, with_answer_known, slot_of, with_kind, with_slot, with_unset, number_bytes}
 use Rattle.verifier_kinds.specs.Arithmetic.{arith_by}
 use Rattle.verifier_kinds.specs.Refinement.{refined}
@@ -143,14 +143,14 @@ slot_kind size extension (Bytes set) at =
 abbrev pub value_size_of : Subject → ℕ → ℕ
 value_size_of p m = unwrap_or (option_map (λ (shape : Shape). shape.value_size) (shape_at p.shapes m)) 0
 
--- an access begins in a value, at whichever of its offsets the pointer is; these are 65536 more than they
--- are
+-- an access begins in a value, at whichever of its offsets the pointer is; these are `offset_bias`
+-- more than they are
 abbrev pub begins_in_value : Offsets → ℤ → Bool
-begins_in_value offsets by = int_le (pos 65536) (pos offsets.low +ℤ by)
+begins_in_value offsets by = int_le (pos offset_bias) (pos offsets.low +ℤ by)
 
 -- and ends in it
 abbrev pub ends_in_value : ℕ → Offsets → ℤ → ℕ → Bool
-ends_in_value value_size offsets by size = int_le (pos (offsets.high + size) +ℤ by) (pos (65536 + value_size))
+ends_in_value value_size offsets by size = int_le (pos (offsets.high + size) +ℤ by) (pos (offset_bias + value_size))
 
 -- an access lies whole in a value
 abbrev pub lies_in_value : ℕ → Offsets → ℤ → ℕ → Result (Unit {0}) ℕ
@@ -195,7 +195,7 @@ name_kind p (negsuc n) = Err unknown_map
 
 -- the one offset of a pointer that is so many bytes after the beginning of an element
 abbrev pub at_offset : ℕ → Offsets
-at_offset n = offsets_in (constant (65536 + n))
+at_offset n = offsets_in (constant (offset_bias + n))
 
 -- the address at an offset in the first value of a map that the program may use: a map always has a first
 -- element, so nothing is left to test
@@ -293,9 +293,9 @@ abbrev pub holds_of_null : Comparison → Bool
 holds_of_null Equal = true
 holds_of_null comparison = false
 
--- the beginning of an element; offsets are 65536 more than they are
+-- the beginning of an element; offsets are `offset_bias` more than they are
 abbrev pub beginning : Offsets
-beginning = record { low = 65536; high = 65536; align = Eight }
+beginning = record { low = offset_bias; high = offset_bias; align = Eight }
 
 -- what a lookup's answer is once it is known whether it is 0
 abbrev pub checked_kind : ℕ → Bool → Kind

@@ -18,6 +18,7 @@ use Rattle.verifier_kinds.specs.declared.kind.Offsets.{Offsets}
 use Rattle.verifier_kinds.specs.declared.kind.Kind.{Kind}
 use Rattle.verifier_kinds.specs.declared.kind.Kind.TheVariants.{Scalar, MapValue}
 use Rattle.verifier_kinds.specs.declared.description.Description.{Description}
+use Rattle.verifier_kinds.specs.Kinds.{offset_bias}
 use Rattle.verifier_kinds.specs.Descriptions.{register_of, with_answer_known, start_description}
 use Rattle.verifier_kinds.specs.Wide.{raised_kind, raised_description, arith_by_at, IsWideAt}
 use Rattle.verifier.specs.declared.jumps.Compared.{Compared}
@@ -33,11 +34,11 @@ computed_kind_at extra code width source insn d =
 
 -- the number of a value's first byte
 abbrev pub begin_number : ℕ → ℕ
-begin_number extra = extra + 65536
+begin_number extra = extra + offset_bias
 
 -- and that of its end
 abbrev pub end_number : ℕ → ℕ → ℕ
-end_number extra value_size = extra + (65536 + value_size)
+end_number extra value_size = extra + (offset_bias + value_size)
 
 -- an access begins in a value
 abbrev pub begins_at : ℕ → Offsets → ℤ → Bool
@@ -118,7 +119,7 @@ abbrev pub IsKeptWide : ℕ → Subject → Table → ℕ → Description → Ty
 IsKeptWide extra p table slot d = (targets : List (ℕ × Description)) × (flow_at extra p slot d ≡ Ok targets) × All (IsContained table) targets
 
 -- A lawful table whose numbers of offsets are `extra` more than those of the verifier: the number n stands for the offset
--- n - 65536 - extra, so with `extra` 65536 the number 0 stands for -131072. `flow_at` differs from `flow` in five operations (Alu,
+-- n - offset_bias - extra, so with `extra` 65536 the number 0 stands for -131072. `flow_at` differs from `flow` in five operations (Alu,
 -- Load, Store, LoadImmediate, Branch), and in these by `extra` alone.
 pub record IsWideLawful (p : Subject) (extra : ℕ) (table : Table) : Type 0 where
   pub start : IsContained table (0, start_description)

@@ -15,7 +15,7 @@ use host_types::rule::{
     MISALIGNED, NULL_NOT_CHECKED, OUTSIDE_CONTEXT, OUTSIDE_MAP, OUTSIDE_STACK, POINTER_LEAKS,
     UNKNOWN_MAP, UNSET_STACK, WRONG_KIND,
 };
-use verifier_kinds::{Align, Description, Kind, Offsets, Range, StackSlot};
+use verifier_kinds::{Align, Description, Kind, OFFSET_BIAS, Offsets, Range, StackSlot};
 
 /// The bytes of a slot of the stack.
 pub(crate) const SLOT_SIZE: u64 = 8;
@@ -81,14 +81,11 @@ fn displaced(offset: i32, by: i16) -> i64
     i64::from(offset) + i64::from(by)
 }
 
-/// How much more an offset from the beginning of an element is than it says.
-const OFFSET_BASE: i64 = 65536;
-
 /// An access begins in a value, at whichever of its offsets the pointer is.
 fn begins_in_value(offsets: Offsets, by: i16) -> bool
     ensures { result ≡ begins_in_value offsets by }
 {
-    OFFSET_BASE <= i64::from(offsets.low) + i64::from(by)
+    i64::from(OFFSET_BIAS) <= i64::from(offsets.low) + i64::from(by)
 }
 
 /// An access ends in a value, at whichever of its offsets the pointer is.
@@ -96,7 +93,8 @@ fn ends_in_value(value_size: u32, offsets: Offsets, by: i16, size: u64) -> bool
     requires { size ≤ 8 }
     ensures { result ≡ ends_in_value value_size offsets by size }
 {
-    (u64::from(offsets.high) + size) as i64 + i64::from(by) <= OFFSET_BASE + i64::from(value_size)
+    (u64::from(offsets.high) + size) as i64 + i64::from(by)
+        <= i64::from(OFFSET_BIAS) + i64::from(value_size)
 }
 
 /// An access lies whole in a value, at whichever of its offsets the pointer is.
@@ -286,7 +284,7 @@ fn at_offset(n: u32) -> Offsets
     ensures offset { result ≡ at_offset n }
     ensures fulfils { AreOffsets result }
 {
-    let range = Range::constant(OFFSET_BASE as u64 + u64::from(n));
+    let range = Range::constant(u64::from(OFFSET_BIAS) + u64::from(n));
     Offsets {
         low: range.low as u32,
         high: range.high as u32,

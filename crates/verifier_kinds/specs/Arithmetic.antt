@@ -17,7 +17,7 @@ use Rattle.verifier_kinds.specs.declared.kind.Range.{Range}
 use Rattle.verifier_kinds.specs.declared.kind.Offsets.{Offsets}
 use Rattle.verifier_kinds.specs.declared.kind.Kind.{Kind}
 use Rattle.verifier_kinds.specs.declared.kind.Kind.TheVariants.{Scalar, Context, Stack, MapValue, MaybeValue}
-use Rattle.verifier_kinds.specs.Kinds.{rank, constant, is_constant, least_align, greatest_align, times_power, normal, offsets_in}
+use Rattle.verifier_kinds.specs.Kinds.{rank, constant, is_constant, least_align, greatest_align, times_power, normal, offset_bias, greatest_offset, offsets_in}
 
 -- the numbers between two ends that an alignment divides
 abbrev pub between : ℕ → ℕ → Align → Range
@@ -126,9 +126,10 @@ computed_range code width offset a b =
 abbrev pub range_of : AluCode → Width → ℤ → Range → Range → Range
 range_of code width offset a b = computed_range code width offset (range_taken width a) (range_taken width b)
 
--- the kind with an offset that a pointer may have; outside of that the rule is broken
+-- the kind with an offset that a pointer may have, from -65536 (negsuc 65535) to `offset_bias`; outside of that the rule is
+-- broken
 abbrev pub within_offsets : (ℤ → Kind) → ℕ → ℤ → Result Kind ℕ
-within_offsets kind rule offset = if int_le (negsuc 65535) offset && int_le offset (pos 65536) then Ok (kind offset) else Err rule
+within_offsets kind rule offset = if int_le (negsuc 65535) offset && int_le offset (pos offset_bias) then Ok (kind offset) else Err rule
 
 -- a pointer that a number moves: only by a constant, of which 2^63 or more stands for itself less 2^64
 abbrev pub moved_forward : (ℤ → Kind) → ℕ → ℤ → Range → Result Kind ℕ
@@ -150,10 +151,10 @@ displaced kind rule code width offset by = Err wrong_kind
 abbrev pub signed_offset : Range → ℕ → ℤ
 signed_offset by n = if is_constant by then cast_signed w64 n else pos n
 
--- a pointer to a map's value at the offsets between two ends, if a pointer may have them; each is 65536
--- more than it is
+-- a pointer to a map's value at the offsets between two ends, if a pointer may have them; each is
+-- `offset_bias` more than it is
 abbrev pub within_value : ℕ → Align → ℤ → ℤ → Result Kind ℕ
-within_value m align (pos low) (pos high) = if nat_le high 131072 then Ok (MapValue m (offsets_in (normal low high align))) else Err outside_map
+within_value m align (pos low) (pos high) = if nat_le high greatest_offset then Ok (MapValue m (offsets_in (normal low high align))) else Err outside_map
 within_value m align low high = Err outside_map
 
 -- A pointer to a map's value is moved by any number, and moved back by a constant; what it may become there is

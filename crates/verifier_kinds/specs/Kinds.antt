@@ -93,7 +93,16 @@ pub record IsSetting (setting : Setting) : Type 0 where
 abbrev pub shape_at : List (Option Shape) → ℕ → Option Shape
 shape_at shapes m = slice_index_or shapes m None
 
--- the offsets as a range of numbers, each 65536 more than the offset is
+-- How many bytes a pointer may point at most before or after the beginning of an element. Its offsets are kept this
+-- much more than they are, so that they are natural numbers, from 0 to `greatest_offset`.
+abbrev pub offset_bias : ℕ
+offset_bias = 65536
+
+-- the greatest offset as it is kept: that of a pointer `offset_bias` bytes after the beginning of an element
+abbrev pub greatest_offset : ℕ
+greatest_offset = 131072
+
+-- the offsets as a range of numbers, each `offset_bias` more than the offset is
 abbrev pub range_in : Offsets → Range
 range_in offsets = record { low = offsets.low; high = offsets.high; align = offsets.align }
 
@@ -109,7 +118,7 @@ pub record IsByElement (offsets : Offsets) (shape : Shape) (m n : ℕ) : Type 0 
   pub element : IsElement shape m first
   pub offset : ℕ
   pub within : IsIn (range_in offsets) offset
-  pub address : n + 65536 ≡ first + offset
+  pub address : n + offset_bias ≡ first + offset
 
 -- what a lookup answered: nothing, or where an element of the map m begins
 abbrev pub IsAnswer : Shape → ℕ → ℕ → Type 0
@@ -130,10 +139,11 @@ Describes setting None x = Unit {0}
 Describes setting (Some kind) None = ⊥
 Describes setting (Some kind) (Some n) = IsOfKind setting kind n
 
--- an offset that a pointer may have
+-- an offset that a pointer to the context or the stack may have: at most `offset_bias` bytes before or after (negsuc 65535 is
+-- -65536), and kept as it is
 pub record IsOffset (offset : ℤ) : Type 0 where
   pub above : negsuc 65535 ≤ℤ offset
-  pub below : offset ≤ℤ pos 65536
+  pub below : offset ≤ℤ pos offset_bias
 
 -- the ends of a range are multiples of its alignment, and one number has the greatest that divides it
 pub record IsNormal (range : Range) : Type 0 where
@@ -149,10 +159,10 @@ IsNormalKind (Scalar range) = IsNormal range
 IsNormalKind (MapValue m offsets) = IsNormal (range_in offsets)
 IsNormalKind kind = Unit {0}
 
--- offsets within 65536 bytes of the beginning of an element
+-- offsets within `offset_bias` bytes of the beginning of an element
 pub record AreOffsets (offsets : Offsets) : Type 0 where
   pub normal : IsNormal (range_in offsets)
-  pub below : offsets.high ≤ 131072
+  pub below : offsets.high ≤ greatest_offset
 
 -- what holds of each kind of the verifier
 abbrev pub IsKind : Kind → Type 0
@@ -188,7 +198,7 @@ abbrev pub IsBelow : Option Kind → Option Kind → Type 0
 IsBelow kind None = Unit {0}
 IsBelow kind (Some outer) = (inner : Kind) × (kind ≡ Some inner) × IsKindBelow inner outer
 
--- the offsets of a range of numbers that are each 65536 more
+-- the offsets of a range of numbers that are each `offset_bias` more
 abbrev pub offsets_in : Range → Offsets
 offsets_in range = record { low = range.low; high = range.high; align = range.align }
 

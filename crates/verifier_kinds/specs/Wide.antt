@@ -1,6 +1,6 @@
 -- Kinds of tables that also say offsets below -65536 (this project's own profile). The offsets of a pointer to
 -- a map's value may be any there: their numbers are `extra` more than those of the verifier, so that they are
--- `extra + 65536` more than the offsets are. Each table with such offsets is one for a great enough `extra`.
+-- `extra + offset_bias` more than the offsets are. Each table with such offsets is one for a great enough `extra`.
 use Rattle.std.specs.Prelude.{ℕ, ◌+◌, nat_le, ℤ, pos, ◌&&◌, if◌then◌else◌, length, map, option_map, ◌≡◌, IfSome, Option, Some, None, Result, Ok, Err, ◌<◌}
 use Rattle.host_types.specs.Rules.{unset_register, outside_map}
 use Rattle.bpf_decode.specs.declared.operation.Width.{Width}
@@ -14,7 +14,7 @@ use Rattle.verifier_kinds.specs.declared.kind.Kind.TheVariants.{Scalar, MapValue
 use Rattle.verifier_kinds.specs.declared.description.StackSlot.{StackSlot}
 use Rattle.verifier_kinds.specs.declared.description.StackSlot.TheVariants.{Kept, Bytes}
 use Rattle.verifier_kinds.specs.declared.description.Description.{Description}
-use Rattle.verifier_kinds.specs.Kinds.{normal, offsets_in, IsNormal}
+use Rattle.verifier_kinds.specs.Kinds.{greatest_offset, normal, offsets_in, IsNormal}
 use Rattle.verifier_kinds.specs.Descriptions.{register_of, slot_of, IsOfCallsBelow}
 use Rattle.verifier_kinds.specs.Arithmetic.{displaced_by, kind_of, copied}
 
@@ -39,7 +39,7 @@ raised_description extra d = record { registers = map (option_map (raised_kind e
 -- a pointer to a map's value at the offsets between two ends, if a pointer may have them: from -65536 to 65536
 abbrev pub within_value_at : ℕ → ℕ → Align → ℤ → ℤ → Result Kind ℕ
 within_value_at extra m align (pos low) (pos high) =
-    if nat_le extra low && nat_le high (extra + 131072) then Ok (MapValue m (offsets_in (normal low high align))) else Err outside_map
+    if nat_le extra low && nat_le high (extra + greatest_offset) then Ok (MapValue m (offsets_in (normal low high align))) else Err outside_map
 within_value_at extra m align low high = Err outside_map
 
 -- a pointer to a map's value is moved there from wherever it is

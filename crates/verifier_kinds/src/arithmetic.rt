@@ -7,7 +7,7 @@ ghost use Rattle.insn_alu.specs.Arithmetic.{IsArithmetic};
 ghost use Rattle.verifier_kinds.specs.Arithmetic.{arith_of, copied, displaced, displaced_value, kind_of, moved_forward, moved_back, moved_number, signed_offset, within_offsets, within_value};
 ghost use Rattle.verifier_kinds.specs.Kinds.{AreOffsets, IsKind, IsNormal, IsOffset, factor};
 
-use crate::kind::{Align, Kind, Offsets, Range};
+use crate::kind::{Align, GREATEST_OFFSET, Kind, OFFSET_BIAS, Offsets, Range};
 use crate::rows::range_of;
 use bpf_decode::{AluCode, Insn, Operation, Width};
 use host_types::rule::{
@@ -149,7 +149,8 @@ fn within_offsets(offset: i64, rule: u32) -> Result<i32, u32>
         (λ n. (kind : ℤ → Kind) → within_offsets kind rule offset ≡ Err n) }
     ensures offset { IfOk result IsOffset }
 {
-    if -65536 <= offset && offset <= 65536 {
+    let most = i64::from(OFFSET_BIAS);
+    if -most <= offset && offset <= most {
         Ok(offset as i32)
     } else {
         Err(rule)
@@ -229,7 +230,7 @@ fn within_value(map: u32, align: Align, low: i128, high: i128) -> Result<Kind, u
     ensures result { result ≡ within_value map align low high }
     ensures kind { IfOk result IsKind }
 {
-    if low < 0 || high > 131072 {
+    if low < 0 || high > i128::from(GREATEST_OFFSET) {
         return Err(OUTSIDE_MAP);
     }
     let range = Range {

@@ -183,8 +183,15 @@ impl Range {
     }
 }
 
+/// How many bytes a pointer may point at most before or after the beginning of a map's element. Offsets are
+/// kept this much more than they are, so that none is negative.
+pub const OFFSET_BIAS: u32 = 65536;
+
+/// The greatest offset as it is kept.
+pub const GREATEST_OFFSET: u32 = 131072;
+
 /// The offsets from `low` to `high`, from the beginning of a map's element, that `align` divides. Each
-/// is 65536 more than it is, so that none is negative.
+/// is `OFFSET_BIAS` more than it is.
 #[derive(Clone, Copy, Debug, PartialEq, Eq)]
 pub struct Offsets {
     pub low: u32,
@@ -194,16 +201,16 @@ pub struct Offsets {
 
 impl Offsets {
     ghost use Rattle.std.specs.Prelude.{◌≡◌, ◌≤◌, ◌↔◌, IsTrue};
-    ghost use Rattle.verifier_kinds.specs.Kinds.{AreOffsets, IsNormal, IsWithin, join_of_ranges, offsets_in, range_in};
+    ghost use Rattle.verifier_kinds.specs.Kinds.{AreOffsets, IsNormal, IsWithin, greatest_offset, join_of_ranges, offsets_in, range_in};
 
     /// The beginning of an element alone.
     pub const BEGINNING: Offsets = Offsets {
-        low: 65536,
-        high: 65536,
+        low: OFFSET_BIAS,
+        high: OFFSET_BIAS,
         align: Align::Eight,
     };
 
-    /// The offsets as a range of numbers, each 65536 more than the offset is.
+    /// The offsets as a range of numbers, each `OFFSET_BIAS` more than the offset is.
     pub fn range(self) -> Range
         ensures { result ≡ range_in self }
     {
@@ -214,10 +221,10 @@ impl Offsets {
         }
     }
 
-    /// The offsets of a range of numbers that are each 65536 more.
+    /// The offsets of a range of numbers that are each `OFFSET_BIAS` more.
     pub(crate) fn of(range: Range) -> Offsets
-        requires low { range.low ≤ 131072 }
-        requires high { range.high ≤ 131072 }
+        requires low { range.low ≤ greatest_offset }
+        requires high { range.high ≤ greatest_offset }
         ensures { result ≡ offsets_in range }
     {
         Offsets {

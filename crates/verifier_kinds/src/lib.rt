@@ -13,5 +13,5 @@ mod rows;
 pub use arithmetic::arith;
 pub use branches::{refine, refined};
 pub use description::{Description, StackSlot};
-pub use kind::{Align, Kind, Offsets, Range};
+pub use kind::{Align, GREATEST_OFFSET, Kind, OFFSET_BIAS, Offsets, Range};
 pub use laws::join_is_least;
