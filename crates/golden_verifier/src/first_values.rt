@@ -9,7 +9,7 @@ use host_types::{Refused, Shape};
 use std::alloc::Global;
 use std::io;
 use verifier::verify;
-use verifier_kinds::{Align, Kind, OFFSET_BIAS, Offsets};
+use verifier_kinds::{Align, Kind, Offsets};
 
 /// A program that loads the address at an offset in the first value of map 0 into R1, and returns 0.
 fn text_of(offset: u16) -> [u8; 32] {
@@ -40,7 +40,8 @@ fn ruled(offset: u16, value_size: u16) -> Result<Kind, Refused> {
             slot: 0,
         });
     }
-    let at = OFFSET_BIAS + u32::from(offset);
+    // An offset is kept as 65536 more than it is.
+    let at = 65536 + u32::from(offset);
     let offsets = Offsets {
         low: at,
         high: at,

@@ -4,12 +4,12 @@ ghost use Rattle.std.specs.Prelude.{IfSome};
 ghost use Rattle.verifier_kinds.specs.Kinds.{AreOffsets, IsKind, IsNormal, IsOffset};
 
 use std::io;
-use verifier_kinds::{Align, GREATEST_OFFSET, Kind, OFFSET_BIAS, Offsets, Range, StackSlot};
+use verifier_kinds::{Align, Kind, Offsets, Range, StackSlot};
 
 /// Prints the offsets of a pointer to a value of a map.
 fn print_value(rt: &impl Print, map: u32, offsets: Offsets) -> io::Result<()> {
-    let low = i64::from(offsets.low) - i64::from(OFFSET_BIAS);
-    let high = i64::from(offsets.high) - i64::from(OFFSET_BIAS);
+    let low = i64::from(offsets.low) - 65536;
+    let high = i64::from(offsets.high) - 65536;
     let align = offsets.align.factor();
     print!(rt; "value of {map}, {low} to {high} by {align}")
 }
@@ -84,10 +84,10 @@ fn numbers_of(text: &str) -> Option<Range>
     })
 }
 
-/// An offset from an element's beginning as it is kept, `OFFSET_BIAS` greater.
+/// An offset from an element's beginning as it is kept, 65536 greater.
 fn kept_offset(text: &str) -> Option<u64> {
     let offset: i32 = text.parse().ok()?;
-    u64::try_from(i64::from(offset) + i64::from(OFFSET_BIAS)).ok()
+    u64::try_from(i64::from(offset) + 65536).ok()
 }
 
 /// The offsets that are written `LOW to HIGH by ALIGN`, if a pointer to a value may have them.
@@ -100,7 +100,7 @@ fn offsets_of(text: &str) -> Option<Offsets>
         high: kept_offset(high)?,
         align,
     })?;
-    if range.high <= u64::from(GREATEST_OFFSET) {
+    if range.high <= 131072 {
         Some(Offsets {
             low: range.low as u32,
             high: range.high as u32,
@@ -116,8 +116,7 @@ fn offset_of(text: &str) -> Option<i32>
     ensures { IfSome result IsOffset }
 {
     let offset = text.parse().ok()?;
-    let most = OFFSET_BIAS as i32;
-    if -most <= offset && offset <= most {
+    if -65536 <= offset && offset <= 65536 {
         Some(offset)
     } else {
         None

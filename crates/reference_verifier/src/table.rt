@@ -4,7 +4,7 @@ use crate::description::{Description, StackSlot};
 use crate::kind::Kind;
 use crate::range::Range;
 use host_types::Refused;
-use verifier_kinds::{Align, OFFSET_BIAS, Offsets};
+use verifier_kinds::{Align, Offsets};
 
 /// What is known at each slot of a text, in order: a description, or nothing where the slot isn't reached.
 #[derive(Drop)]
@@ -41,9 +41,9 @@ fn numbers(range: Range) -> verifier_kinds::Range {
     }
 }
 
-/// An offset as `verifier_kinds` keeps it.
+/// An offset as `verifier_kinds` keeps it, 65536 greater.
 fn kept_offset(offset: i128) -> u32 {
-    u32::try_from(offset.saturating_add(i128::from(OFFSET_BIAS))).unwrap_or(u32::MAX)
+    u32::try_from(offset.saturating_add(65_536)).unwrap_or(u32::MAX)
 }
 
 /// An offset of the context or the stack.
