@@ -1,7 +1,6 @@
 -- A document that is called bad means nothing: from what a table lacks to what it can't be.
 use Rattle.std.proofs.Common.{◌≡◌, ◌∷◌, [], ℕ, List, refl, ap, arith, ◌+◌, ◌*◌, subst, Option, Some, None, option_map, MatchOption, IfErr, Result, Ok, Err}
 use Rattle.toml.specs.Data.{Data, array, table, Items, Members}
-use Rattle.host_types.specs.declared.event.Event.{Event}
 use Rattle.host_types.specs.declared.event.Event.TheVariants as event
 use Rattle.host_types.specs.declared.options.Options.{Options}
 use Rattle.host_types.specs.OptionTable.{default_options}
@@ -11,7 +10,7 @@ use Rattle.host_file.specs.declared.command.Command.TheVariants as command
 use Rattle.host_file.specs.declared.fault.FileFault.{FileFault}
 use Rattle.host_file.specs.declared.fault.FileFault.TheVariants as fault
 use Rattle.host_file.specs.Faults.{MeansNone, Refutes}
-use Rattle.host_file.specs.HostFile.{HasString, IsEvent, IsBeginning, IsOptionData, IsEventArray}
+use Rattle.host_file.specs.HostFile.{HasString, IsEvent, IsOptionData, IsEventArray}
 use Rattle.host_file.specs.Kinds.{Kind, map, load, begin, step, finish, run, visit, update, lookup, set, unmerge, counters, unload, drop, word_of, IsComplete}
 
 -- a number by a word's first three letters, in which the words of all kinds differ
@@ -41,17 +40,13 @@ kind_of_word _ _ e = absurd (omega (arith, ap letters e))
 abbrev Shown : Members → Type 0
 Shown ms = (k : Kind) × HasString ms key.Do (word_of k) × IsComplete ms k
 
-beginning_shown : (ms : Members) (e : Event) → IsBeginning ms e → IsComplete ms run
-beginning_shown ms (event.Begin tenant program context) h = (h.0, (tenant, h.1), (program, h.2), (context, h.3))
-beginning_shown ms _ h = absurd h
-
 event_shown : (ms : Members) (c : Command) → IsEvent ms c → Shown ms
 event_shown ms (command.Apply (event.CreateMap tenant value_size entries mergeable)) h =
     (map, h.0.0, (h.0.1, (tenant, h.1), (value_size, h.2), (entries, h.3), (mergeable, h.4)))
 event_shown ms (command.Apply (event.Load tenant text context_size)) h =
     (load, h.0.0, (h.0.1, (tenant, h.1), (text, h.2), (context_size, h.3)))
 event_shown ms (command.Apply (event.Begin tenant program context)) h =
-    (begin, h.0, (h.1.0, (tenant, h.1.1), (program, h.1.2), (context, h.1.3)))
+    (begin, h.0.0, (h.0.1, (tenant, h.1), (program, h.2), (context, h.3)))
 event_shown ms (command.Apply (event.HostUpdate tenant m number value)) h =
     (update, h.0.0, (h.0.1, (tenant, h.1), (m, h.2), (number, h.3), (value, h.4)))
 event_shown ms (command.Apply (event.HostLookup tenant m number)) h =
@@ -64,7 +59,8 @@ event_shown ms (command.Apply (event.DropMap tenant m)) h = (drop, h.0.0, (h.0.1
 event_shown ms (command.Apply _) h = absurd h
 event_shown ms (command.Step tenant count) h = (step, h.0.0, (h.0.1, (tenant, h.1), (count, h.2)))
 event_shown ms (command.Finish tenant) h = (finish, h.0.0, (h.0.1, (tenant, h.1)))
-event_shown ms (command.Run e) h = (run, h.0, beginning_shown ms e h.1)
+event_shown ms (command.Run tenant program context) h =
+    (run, h.0.0, (h.0.1, (tenant, h.1), (program, h.2), (context, h.3)))
 event_shown ms (command.Visit count) h = (visit, h.0.0, (h.0.1, (count, h.1)))
 
 -- a table that says its kind and isn't complete is no event's

@@ -100,13 +100,6 @@ HasOptions ms options = MatchOption (value_at ms key.Options) (options ≡ defau
 abbrev pub IsRow : Members → List ℕ → List Key → Type 0
 IsRow ms kind keys = HasString ms key.Do kind × HasOnly ms keys
 
--- the table has what opens a run: a tenant, one of its programs, and the bytes of a context
-abbrev pub IsBeginning : Members → Event → Type 0
-IsBeginning ms (Begin tenant program context) =
-    HasOnly ms (key.Do ∷ key.Tenant ∷ key.Program ∷ key.Context ∷ [])
-    × HasNumber ms key.Tenant tenant × HasNumber ms key.Program program × HasHex ms key.Context context
-IsBeginning ms _ = ⊥
-
 -- the table of an event of the host, by what it does
 abbrev pub IsHostEvent : Members → Event → Type 0
 IsHostEvent ms (CreateMap tenant value_size entries mergeable) =
@@ -117,7 +110,8 @@ IsHostEvent ms (Load tenant text context_size) =
     IsRow ms (codes "load") (key.Do ∷ key.Tenant ∷ key.Hex ∷ key.Context ∷ [])
     × HasNumber ms key.Tenant tenant × HasHex ms key.Hex text × HasNumber ms key.Context context_size
 IsHostEvent ms (Begin tenant program context) =
-    HasString ms key.Do (codes "begin") × IsBeginning ms (Begin tenant program context)
+    IsRow ms (codes "begin") (key.Do ∷ key.Tenant ∷ key.Program ∷ key.Context ∷ [])
+    × HasNumber ms key.Tenant tenant × HasNumber ms key.Program program × HasHex ms key.Context context
 IsHostEvent ms (HostUpdate tenant map number value) =
     IsRow ms (codes "update") (key.Do ∷ key.Tenant ∷ key.Map ∷ key.Key ∷ key.Value ∷ [])
     × HasNumber ms key.Tenant tenant × HasNumber ms key.Map map × HasNumber ms key.Key number × HasHex ms key.Value value
@@ -144,7 +138,9 @@ IsEvent ms (Step tenant count) =
     × HasNumber ms key.Tenant tenant × HasNumberOr 1 ms key.Count count
 IsEvent ms (Finish tenant) =
     IsRow ms (codes "finish") (key.Do ∷ key.Tenant ∷ []) × HasNumber ms key.Tenant tenant
-IsEvent ms (Run event) = HasString ms key.Do (codes "run") × IsBeginning ms event
+IsEvent ms (Run tenant program context) =
+    IsRow ms (codes "run") (key.Do ∷ key.Tenant ∷ key.Program ∷ key.Context ∷ [])
+    × HasNumber ms key.Tenant tenant × HasNumber ms key.Program program × HasHex ms key.Context context
 IsEvent ms (Visit count) = IsRow ms (codes "visit") (key.Do ∷ key.Count ∷ []) × HasAnyNumber ms key.Count count
 
 abbrev pub IsEventTable : Data → Command → Type 0

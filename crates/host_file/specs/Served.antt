@@ -1,7 +1,7 @@
 -- Which host files are served (docs/HOST.md): those that ask for nothing but what threads beside each other can do.
 use Rattle.std.specs.Prelude.{ℕ, ◌<◌}
 use Rattle.host_types.specs.declared.event.Event.{Event}
-use Rattle.host_types.specs.declared.event.Event.TheVariants.{CreateMap, Load, Begin, HostUpdate, HostLookup, Set}
+use Rattle.host_types.specs.declared.event.Event.TheVariants.{CreateMap, Load, HostUpdate, HostLookup, Set}
 use Rattle.host_file.specs.declared.command.Command.{Command}
 use Rattle.host_file.specs.declared.command.Command.TheVariants.{Apply, Run, Visit}
 
@@ -17,6 +17,6 @@ IsServedEvent tenants _ = ⊥
 -- one of those, a whole run of one of so many tenants, or visits
 abbrev pub IsServedCommand : ℕ → Command → Type 0
 IsServedCommand tenants (Apply event) = IsServedEvent tenants event
-IsServedCommand tenants (Run (Begin tenant program context)) = tenant < tenants
+IsServedCommand tenants (Run tenant program context) = tenant < tenants
 IsServedCommand tenants (Visit count) = Unit {0}
 IsServedCommand tenants _ = ⊥

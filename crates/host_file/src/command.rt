@@ -1,6 +1,6 @@
 ghost use Rattle.std.specs.Prelude.{◌≡◌};
 
-use host_types::Event;
+use host_types::{Bytes, Event};
 use std::marker::Model;
 
 /// What an event of a host file asks for.
@@ -9,13 +9,24 @@ pub enum Command {
     /// Applies an event of the host as it is.
     Apply(Event),
     /// Makes up to a number of steps of the tenant's open run.
-    Step { tenant: u32, count: u32 },
+    Step {
+        tenant: u32,
+        count: u32,
+    },
     /// Makes steps of the tenant's open run until it ends.
-    Finish { tenant: u32 },
-    /// Applies the event that opens a run and, where it is open then, makes its steps until it ends.
-    Run(Event),
+    Finish {
+        tenant: u32,
+    },
+    /// Opens a run of a loaded program on a context and, where it is open then, makes its steps until it ends.
+    Run {
+        tenant: u32,
+        program: u32,
+        context: Bytes,
+    },
     /// Lets the scanner visit so many pages, or with no count as many as `pages_to_scan` is by then.
-    Visit { count: Option<u32> },
+    Visit {
+        count: Option<u32>,
+    },
 }
 
 /// The commands of a host file in their order.

@@ -1,6 +1,6 @@
 ghost use Rattle.std.specs.Prelude.{codes, IfErr, IfOk};
 ghost use Rattle.host_file.specs.Faults.{MeansNone, Refutes};
-ghost use Rattle.host_file.specs.HostFile.{HasOption, HasString, IsBeginning, IsEvent};
+ghost use Rattle.host_file.specs.HostFile.{HasOption, HasString, IsEvent};
 ghost use Rattle.host_file.specs.Kinds.{IsComplete};
 ghost use Rattle.host_file.specs.Kinds as kind;
 ghost use Rattle.host_file.specs.Section.{members_of};
@@ -78,7 +78,12 @@ fn begin(alloc: Global, event: &Section<'_>) -> Result<Command, FileFault>
     ensures read { IfOk result (IsEvent (members_of event.now)) }
     ensures bad { IfErr result (Refutes (IsComplete (members_of event.now) kind.begin)) }
 {
-    Ok(Command::Apply(beginning(alloc, event)?))
+    event.require_only(alloc, &[Key::Do, Key::Tenant, Key::Program, Key::Context])?;
+    Ok(Command::Apply(Event::Begin {
+        tenant: event.number(Key::Tenant)?,
+        program: event.number(Key::Program)?,
+        context: event.bytes(alloc, Key::Context)?,
+    }))
 }
 
 fn step(alloc: Global, event: &Section<'_>) -> Result<Command, FileFault>
@@ -109,16 +114,8 @@ fn run(alloc: Global, event: &Section<'_>) -> Result<Command, FileFault>
     ensures read { IfOk result (IsEvent (members_of event.now)) }
     ensures bad { IfErr result (Refutes (IsComplete (members_of event.now) kind.run)) }
 {
-    Ok(Command::Run(beginning(alloc, event)?))
-}
-
-/// The event that opens a run.
-fn beginning(alloc: Global, event: &Section<'_>) -> Result<Event, FileFault>
-    ensures read { IfOk result (IsBeginning (members_of event.now)) }
-    ensures bad { IfErr result (Refutes (IsComplete (members_of event.now) kind.begin)) }
-{
     event.require_only(alloc, &[Key::Do, Key::Tenant, Key::Program, Key::Context])?;
-    Ok(Event::Begin {
+    Ok(Command::Run {
         tenant: event.number(Key::Tenant)?,
         program: event.number(Key::Program)?,
         context: event.bytes(alloc, Key::Context)?,

@@ -8,12 +8,12 @@ mod fault;
 mod file;
 mod key;
 mod section;
-mod serving;
+mod served;
 mod size;
 
 pub use command::{Command, Commands};
 pub use fault::{BadFile, Cause, FileFault, Location};
 pub use file::{HostFile, read_file};
 pub use key::Key;
-pub use serving::require_served;
+pub use served::require_served;
 pub use size::MAX_BYTES;

@@ -32,9 +32,9 @@ fn served(tenants: u32, command: &Command) -> Result<(), Cause>
 {
     match command {
         Command::Apply(event) => served_event(tenants, event),
-        Command::Run(Event::Begin { tenant, .. }) => there(tenants, *tenant),
+        Command::Run { tenant, .. } => there(tenants, *tenant),
         Command::Visit { .. } => Ok(()),
-        Command::Run(_) | Command::Step { .. } | Command::Finish { .. } => Err(Cause::NotServed),
+        Command::Step { .. } | Command::Finish { .. } => Err(Cause::NotServed),
     }
 }
 

@@ -1,6 +1,6 @@
 use Rattle.std.proofs.Common.{rules}
 use Rattle.host_file.proofs.Taken.{one_more_served, all_served}
-use Rattle.host_file.proofs.serving.require_served.Goals as goal
+use Rattle.host_file.proofs.served.require_served.Goals as goal
 
 pub loop-number-preserved : goal.loop-number-preserved
 loop-number-preserved c = one_more_served c.args.file.now.tenants c.args.file.now.commands c.loop-number.number c.command-item.result
