@@ -3,7 +3,7 @@ use Rattle.std.proofs.Common.{◌≡◌, ℕ, zero, suc, ◌≤◌, Bool, true, 
 use mir.Val.{bool_byte}
 use Rattle.std.specs.Io.KnownBytes.{Appends, Keeps}
 use Rattle.host_types.specs.declared.event.Event.{Event}
-use Rattle.host_types.specs.declared.event.Event.TheVariants.{Step, Visit}
+use Rattle.host_types.specs.declared.event.Event.TheVariants.{Begin, Step, Visit}
 use Rattle.host_core.specs.declared.reply.Reply.{Reply}
 use Rattle.host_core.specs.declared.reply.Reply.TheVariants.{Map, Program, Begun, Stepped, Ended, Visited, Done, Value, Counters, Refused}
 use Rattle.host_core.specs.World.{System, IsCovered, new_system}
@@ -211,6 +211,43 @@ noted-stepped w next host t limit events replies old was stands (steps, answers)
       written = subst (Appends was was) (sym (lines-stepped limit t begun)) (Appends-none was);
     })
 
+-- a reply to what opens a run has the lines that it has as a step's
+pub begin-lines : (t program run : ℕ) (context : List ℕ) (reply : Reply) → reply_lines (Step t) run reply ≡ reply_lines (Begin t program context) run reply
+begin-lines t program run context (Map m) = refl
+begin-lines t program run context (Program k) = refl
+begin-lines t program run context Begun = refl
+begin-lines t program run context Stepped = refl
+begin-lines t program run context (Ended ret steps) = refl
+begin-lines t program run context (Visited visited) = refl
+begin-lines t program run context Done = refl
+begin-lines t program run context (Value value) = refl
+begin-lines t program run context (Counters counters) = refl
+begin-lines t program run context (Refused fault) = refl
+
+-- and as many runs are begun after it
+begin-begun : (t program : ℕ) (context begun : List ℕ) (reply : Reply) → begun_after begun (Step t) reply ≡ begun_after begun (Begin t program context) reply
+begin-begun t program context begun (Map m) = refl
+begin-begun t program context begun (Program k) = refl
+begin-begun t program context begun Begun = refl
+begin-begun t program context begun Stepped = refl
+begin-begun t program context begun (Ended ret steps) = refl
+begin-begun t program context begun (Visited visited) = refl
+begin-begun t program context begun Done = refl
+begin-begun t program context begun (Value value) = refl
+begin-begun t program context begun (Counters counters) = refl
+begin-begun t program context begun (Refused fault) = refl
+
+-- what a session noted and wrote of it as a step's
+begin-printed : (t program : ℕ) (context : List ℕ) (reply : Reply) (old new : Session) (was is : Option (List ℕ))
+    → HasPrinted (Step t) reply old new was is → HasPrinted (Begin t program context) reply old new was is
+begin-printed t program context reply old new was is printed = record {
+  host = printed.host;
+  begun = printed.begun ∙ begin-begun t program context old.begun.items reply;
+  pages = printed.pages;
+  refused = printed.refused;
+  written = subst (Appends was is) (begin-lines t program (latest_run old.begun.items (Some t)) context reply) printed.written;
+}
+
 -- what is asked of the events may be said otherwise
 pub performs-as : (Asked Said : List Event → List Reply → Type 0) (old new : Session) (was is : Option (List ℕ))
     → ((events : List Event) (replies : List Reply) → Asked events replies → Said events replies)
@@ -255,32 +292,31 @@ performs-printed host event reply old new was is happens printed w stands =
     let (next, stands', happen, promised, covered) = happens w stands in
     (event ∷ [], reply ∷ [], next, (refl, refl), noted-printed w next host event reply old new was is stands' happen promised covered printed)
 
+-- the event that is to open a run, on a context that was read where it is
+pub performs-begin : (host : HostView) (t program : ℕ) (read context : List ℕ) (reply : Reply) (old new : Session) (was is : Option (List ℕ)) → read ≡ context
+    → ((x : System) → StandsForSystem old.host x
+    → (next : System) × StandsForSystem host next × Happens x (Begin t program read) reply next × IsPromised x (Begin t program read) reply next × IsCovered next)
+    → HasPrinted (Step t) reply (with_host old host) new was is → Performs (IsOneEvent (Begin t program context) reply) old new was is
+performs-begin host t program read context reply old new was is same happens printed =
+    subst (λ bytes. Performs (IsOneEvent (Begin t program bytes) reply) old new was is) same
+    (performs-printed host (Begin t program read) reply old new was is happens
+    (begin-printed t program read reply (with_host old host) new was is printed))
+
 -- a run that began and went on
-pub performs-run : (pages t : ℕ) (event : Event) (old half new : Session) (was mid_way is : Option (List ℕ)) → tenant_of event ≡ Some t
-    → Performs (IsOneEvent event Begun) old half was mid_way → Performs (AreStepsToEnd t) half new mid_way is → Performs (AreOf pages (Run event)) old new was is
-performs-run pages t event old half new was mid_way is named begins goes w stands =
+pub performs-run : (pages t program : ℕ) (context : List ℕ) (old half new : Session) (was mid_way is : Option (List ℕ))
+    → Performs (IsOneEvent (Begin t program context) Begun) old half was mid_way → Performs (AreStepsToEnd t) half new mid_way is
+    → Performs (AreOf pages (Run t program context)) old new was is
+performs-run pages t program context old half new was mid_way is begins goes w stands =
     let (first, replied, mid, (one, answer), noted) = begins w stands in
     let (more, further, next, steps, noted') = goes mid noted.stands in (
       first ++ more,
       replied ++ further,
       next,
-      (Begun, more, further, ap (λ es. es ++ more) one, ap (λ rs. rs ++ further) answer, subst (λ o. AreIfBegun o Begun more further) (sym named) steps),
+      (Begun, more, further, ap (λ es. es ++ more) one, ap (λ rs. rs ++ further) answer, steps),
       noted-join w mid next old half new was mid_way is first more replied further noted noted',
     )
 
-unnamed : (reply : Reply) → AreIfBegun None reply [] []
-unnamed (Map m) = (refl, refl)
-unnamed (Program k) = (refl, refl)
-unnamed Begun = (refl, refl)
-unnamed Stepped = (refl, refl)
-unnamed (Ended ret steps) = (refl, refl)
-unnamed (Visited visited) = (refl, refl)
-unnamed Done = (refl, refl)
-unnamed (Value value) = (refl, refl)
-unnamed (Counters counters) = (refl, refl)
-unnamed (Refused fault) = (refl, refl)
-
-not_begun : (t : ℕ) (reply : Reply) → (reply ≡ Begun → ⊥) → AreIfBegun (Some t) reply [] []
+not_begun : (t : ℕ) (reply : Reply) → (reply ≡ Begun → ⊥) → AreIfBegun t reply [] []
 not_begun t (Map m) other = (refl, refl)
 not_begun t (Program k) other = (refl, refl)
 not_begun t Begun other = absurd (other refl)
@@ -292,16 +328,12 @@ not_begun t (Value value) other = (refl, refl)
 not_begun t (Counters counters) other = (refl, refl)
 not_begun t (Refused fault) other = (refl, refl)
 
-nothing-more : (named : Option ℕ) (reply : Reply) → (reply ≡ Begun → IsSome named → ⊥) → AreIfBegun named reply [] []
-nothing-more None reply other = unnamed reply
-nothing-more (Some t) reply other = not_begun t reply (λ e. other e refl)
-
 -- a run that didn't begin
-pub performs-no_run : (pages : ℕ) (event : Event) (reply : Reply) (old new : Session) (was is : Option (List ℕ)) → (reply ≡ Begun → IsSome (tenant_of event) → ⊥)
-    → Performs (IsOneEvent event reply) old new was is → Performs (AreOf pages (Run event)) old new was is
-performs-no_run pages event reply old new was is other =
-    performs-as (IsOneEvent event reply) (AreOf pages (Run event)) old new was is
-    (λ events replies alone. (reply, [], [], alone.0, alone.1, nothing-more (tenant_of event) reply other))
+pub performs-no_run : (pages t program : ℕ) (context : List ℕ) (reply : Reply) (old new : Session) (was is : Option (List ℕ)) → (reply ≡ Begun → ⊥)
+    → Performs (IsOneEvent (Begin t program context) reply) old new was is → Performs (AreOf pages (Run t program context)) old new was is
+performs-no_run pages t program context reply old new was is other =
+    performs-as (IsOneEvent (Begin t program context) reply) (AreOf pages (Run t program context)) old new was is
+    (λ events replies alone. (reply, [], [], alone.0, alone.1, not_begun t reply other))
 
 -- no visits, once what was written is passed on, and one more visit
 pub performs-no_visit : (old : Session) (was is : Option (List ℕ)) → Keeps was is → Performs (AreVisits 0) old old was is
@@ -333,35 +365,25 @@ steps-as_long t limit (Some last) events replies (n, few, other, steps, answers)
     ap length steps ∙ length-append (replicate n (Step t)) (Step t ∷ []) ∙ ap (λ k. k + 1) (length-replicate n (Step t))
     ∙ sym (ap (λ k. k + 1) (length-replicate n Stepped)) ∙ sym (length-append (replicate n Stepped) (last ∷ [])) ∙ sym (ap length answers)
 
-begun-as_long : (named : Option ℕ) (reply : Reply) (events : List Event) (replies : List Reply) → AreIfBegun named reply events replies → length events ≡ length replies
-begun-as_long None (Map m) events replies none = ap length none.0 ∙ sym (ap length none.1)
-begun-as_long None (Program k) events replies none = ap length none.0 ∙ sym (ap length none.1)
-begun-as_long None Begun events replies none = ap length none.0 ∙ sym (ap length none.1)
-begun-as_long None Stepped events replies none = ap length none.0 ∙ sym (ap length none.1)
-begun-as_long None (Ended ret steps) events replies none = ap length none.0 ∙ sym (ap length none.1)
-begun-as_long None (Visited visited) events replies none = ap length none.0 ∙ sym (ap length none.1)
-begun-as_long None Done events replies none = ap length none.0 ∙ sym (ap length none.1)
-begun-as_long None (Value value) events replies none = ap length none.0 ∙ sym (ap length none.1)
-begun-as_long None (Counters counters) events replies none = ap length none.0 ∙ sym (ap length none.1)
-begun-as_long None (Refused fault) events replies none = ap length none.0 ∙ sym (ap length none.1)
-begun-as_long (Some t) (Map m) events replies none = ap length none.0 ∙ sym (ap length none.1)
-begun-as_long (Some t) (Program k) events replies none = ap length none.0 ∙ sym (ap length none.1)
-begun-as_long (Some t) Begun events replies (limit, last, steps) = steps-as_long t limit (Some last) events replies steps
-begun-as_long (Some t) Stepped events replies none = ap length none.0 ∙ sym (ap length none.1)
-begun-as_long (Some t) (Ended ret steps) events replies none = ap length none.0 ∙ sym (ap length none.1)
-begun-as_long (Some t) (Visited visited) events replies none = ap length none.0 ∙ sym (ap length none.1)
-begun-as_long (Some t) Done events replies none = ap length none.0 ∙ sym (ap length none.1)
-begun-as_long (Some t) (Value value) events replies none = ap length none.0 ∙ sym (ap length none.1)
-begun-as_long (Some t) (Counters counters) events replies none = ap length none.0 ∙ sym (ap length none.1)
-begun-as_long (Some t) (Refused fault) events replies none = ap length none.0 ∙ sym (ap length none.1)
+begun-as_long : (t : ℕ) (reply : Reply) (events : List Event) (replies : List Reply) → AreIfBegun t reply events replies → length events ≡ length replies
+begun-as_long t (Map m) events replies none = ap length none.0 ∙ sym (ap length none.1)
+begun-as_long t (Program k) events replies none = ap length none.0 ∙ sym (ap length none.1)
+begun-as_long t Begun events replies (limit, last, steps) = steps-as_long t limit (Some last) events replies steps
+begun-as_long t Stepped events replies none = ap length none.0 ∙ sym (ap length none.1)
+begun-as_long t (Ended ret steps) events replies none = ap length none.0 ∙ sym (ap length none.1)
+begun-as_long t (Visited visited) events replies none = ap length none.0 ∙ sym (ap length none.1)
+begun-as_long t Done events replies none = ap length none.0 ∙ sym (ap length none.1)
+begun-as_long t (Value value) events replies none = ap length none.0 ∙ sym (ap length none.1)
+begun-as_long t (Counters counters) events replies none = ap length none.0 ∙ sym (ap length none.1)
+begun-as_long t (Refused fault) events replies none = ap length none.0 ∙ sym (ap length none.1)
 
 -- the events of a command have as many replies
 of-as_long : (pages : ℕ) (command : Command) (events : List Event) (replies : List Reply) → AreOf pages command events replies → length events ≡ length replies
 of-as_long pages (Apply event) events replies (reply, one, answer) = ap length one ∙ sym (ap length answer)
 of-as_long pages (command.Step t count) events replies (last, steps) = steps-as_long t count last events replies steps
 of-as_long pages (Finish t) events replies (limit, last, steps) = steps-as_long t limit (Some last) events replies steps
-of-as_long pages (Run event) events replies (reply, more, further, are, print, begun) =
-    ap length are ∙ ap suc (begun-as_long (tenant_of event) reply more further begun) ∙ sym (ap length print)
+of-as_long pages (Run t program context) events replies (reply, more, further, are, print, begun) =
+    ap length are ∙ ap suc (begun-as_long t reply more further begun) ∙ sym (ap length print)
 of-as_long pages (command.Visit count) events replies (visits, counted) =
     ap length visits ∙ length-replicate (unwrap_or count pages) Visit ∙ sym counted
 

@@ -1,3 +1,4 @@
+pub mod Beginnings
 pub mod Check
 pub mod Input
 pub mod Lines

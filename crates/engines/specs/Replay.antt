@@ -5,7 +5,7 @@ use Rattle.host_types.specs.declared.fault.Fault.{Fault}
 use Rattle.host_types.specs.declared.options.Opt.TheVariants.{PagesToScan}
 use Rattle.page_table.specs.Changes.{RefusesMemory}
 use Rattle.host_types.specs.declared.event.Event.{Event}
-use Rattle.host_types.specs.declared.event.Event.TheVariants.{Visit, Set}
+use Rattle.host_types.specs.declared.event.Event.TheVariants.{Begin, Visit, Set}
 use Rattle.host_core.specs.declared.reply.Reply.{Reply}
 use Rattle.host_core.specs.declared.reply.Reply.TheVariants.{Begun, Done, Refused}
 use Rattle.host_core.specs.World.{System, new_system}
@@ -30,9 +30,9 @@ AreStepsToEnd t events replies = (limit : ℕ) × (last : Reply) × AreSteps t l
 abbrev pub AreVisits : ℕ → List Event → List Reply → Type 0
 AreVisits count events replies = (events ≡ replicate count Visit) × (length replies ≡ count)
 
--- what follows the event that is to open a run: the steps to its end where it is open, and else nothing
-abbrev pub AreIfBegun : Option ℕ → Reply → List Event → List Reply → Type 0
-AreIfBegun (Some t) Begun events replies = AreStepsToEnd t events replies
+-- what follows the event that is to open a tenant's run: the steps to its end where it is open, and else nothing
+abbrev pub AreIfBegun : ℕ → Reply → List Event → List Reply → Type 0
+AreIfBegun t Begun events replies = AreStepsToEnd t events replies
 AreIfBegun t reply events replies = (events ≡ []) × (replies ≡ [])
 
 -- the events that a command applies, with their replies, where pages_to_scan is as it is then
@@ -40,9 +40,9 @@ abbrev pub AreOf : ℕ → Command → List Event → List Reply → Type 0
 AreOf pages (Apply event) events replies = (reply : Reply) × (events ≡ event ∷ []) × (replies ≡ reply ∷ [])
 AreOf pages (Step t count) events replies = AreStepsUpTo t count events replies
 AreOf pages (Finish t) events replies = AreStepsToEnd t events replies
-AreOf pages (Run event) events replies =
+AreOf pages (Run t program context) events replies =
     (reply : Reply) × (more : List Event) × (further : List Reply)
-    × (events ≡ event ∷ more) × (replies ≡ reply ∷ further) × AreIfBegun (tenant_of event) reply more further
+    × (events ≡ Begin t program context ∷ more) × (replies ≡ reply ∷ further) × AreIfBegun t reply more further
 AreOf pages (command.Visit count) events replies = AreVisits (unwrap_or count pages) events replies
 
 -- pages_to_scan after a reply to an event: a set that was done gives it its value

@@ -103,32 +103,39 @@ pub fn explain_event<W: Write>(
             };
             explain_refused_text(alloc, diagnostics, &checked, refused)?;
         }
-        (_, Fault::BadContext) => {
-            write_advice(diagnostics, fault, advice_on_event(event, fault))?;
-            write_sizes(diagnostics, event, known.context_size)?;
+        (Event::Load { context_size, .. }, Fault::BadContext) => {
+            write_advice(diagnostics, fault, Some(on_context_size()))?;
+            write!(diagnostics, "; the size is {context_size}")?;
+        }
+        (Event::Begin { context, .. }, _) => {
+            let length = context.as_slice().len();
+            return explain_beginning(diagnostics, length, known.context_size, fault);
         }
         _ => write_advice(diagnostics, fault, advice_on_event(event, fault))?,
     }
     writeln!(diagnostics)
 }
 
-/// Writes the size of contexts that an event gives, and that of its program, where it is known.
-fn write_sizes<W: Write>(
+/// Writes what it means that a run on a context of a length wasn't opened, whose program was loaded for contexts of
+/// a size, where it is known.
+pub fn explain_beginning<W: Write>(
     diagnostics: &mut W,
-    event: &Event,
+    length: usize,
     loaded: Option<u32>,
+    fault: Fault,
 ) -> io::Result<()> {
-    match event {
-        Event::Load { context_size, .. } => write!(diagnostics, "; the size is {context_size}"),
-        Event::Begin { context, .. } => {
-            write!(diagnostics, "; the size is {}", context.as_slice().len())?;
-            match loaded {
-                Some(size) => write!(diagnostics, ", and the program takes {size}"),
-                None => Ok(()),
+    match fault {
+        Fault::BadContext => {
+            write_advice(diagnostics, fault, Some(on_context_length()))?;
+            write!(diagnostics, "; the size is {length}")?;
+            if let Some(size) = loaded {
+                write!(diagnostics, ", and the program takes {size}")?;
             }
         }
-        _ => Ok(()),
+        Fault::NoFrames { .. } => write_advice(diagnostics, fault, Some(on_frames_for_run()))?,
+        _ => write_advice(diagnostics, fault, advice_on(fault.number()))?,
     }
+    writeln!(diagnostics)
 }
 
 /// The advice on the refusal of an event by its number and by what was to be done.
@@ -137,9 +144,6 @@ fn advice_on_event(event: &Event, fault: Fault) -> Option<Advice> {
         (Event::CreateMap { .. }, Fault::TooManyMaps) => Some(on_map_count()),
         (Event::CreateMap { .. }, Fault::BadShape) => Some(on_shape()),
         (Event::CreateMap { .. }, Fault::NoFrames { .. }) => Some(on_frames_for_map()),
-        (Event::Load { .. }, Fault::BadContext) => Some(on_context_size()),
-        (Event::Begin { .. }, Fault::BadContext) => Some(on_context_length()),
-        (Event::Begin { .. }, Fault::NoFrames { .. }) => Some(on_frames_for_run()),
         (Event::HostUpdate { .. }, Fault::BadShape) => Some(on_value_size()),
         (Event::HostUpdate { .. }, Fault::NoFrames { .. }) => Some(on_frames_for_update()),
         (Event::Set { option, .. }, Fault::BadOption) => Some(on_option(*option)),

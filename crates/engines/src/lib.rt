@@ -3,6 +3,7 @@
 #![tactic(auto)]
 
 mod arguments;
+mod beginning;
 pub mod check;
 mod explanation;
 mod fault;
@@ -12,9 +13,10 @@ mod session;
 mod watch;
 
 pub use arguments::words_from;
+pub use beginning::Beginning;
 pub use explanation::Known;
 pub use fault::{status_of, write_fault, written};
-pub use lines::write_reply;
+pub use lines::{write_beginning_reply, write_reply};
 pub use replay::{file_from, refuse};
-pub use session::explain_at;
+pub use session::{explain_at, explain_beginning_at};
 pub use watch::{Unwatched, Watch};

@@ -5,8 +5,10 @@ ghost use Rattle.std.specs.Io.KnownBytes.{Appends};
 ghost use Rattle.host_types.specs.Refusals.{refusal_text};
 ghost use Rattle.hex.specs.Hex.{encode_lower};
 ghost use Rattle.host_file.specs.Faults.{IsBad, IsOfWords};
+ghost use Rattle.engines.specs.Beginnings.{begin_event};
 ghost use Rattle.engines.specs.Lines.{line_of, location_text, reply_lines, tenant_front, value_line};
 
+use crate::beginning::Beginning;
 use crate::fault::written;
 use hex::encode_to_slice;
 use host_core::{Event, Reply};
@@ -67,6 +69,23 @@ pub fn write_reply<W: Write>(
         | Reply::Visited(_)
         | Reply::Done => Ok(()),
     }
+}
+
+/// Writes the lines of a reply to what opens a run, where it has any. `run` is the number of the latest run of the tenant.
+pub fn write_beginning_reply<W: Write>(
+    writer: &mut W,
+    beginning: &Beginning<'_>,
+    run: u64,
+    reply: &Reply,
+) -> Result<(), FileFault>
+    ensures lines { OnOk result (Appends (W.contents writer.old) (W.contents writer.new) (reply_lines (begin_event beginning.now) run reply.now)) }
+    ensures bad { IfErr result (λ fault. ¬ IsBad fault) }
+{
+    // Of these lines and those of a step's reply each names the tenant alone.
+    let step = Event::Step {
+        tenant: beginning.tenant,
+    };
+    write_reply(writer, &step, run, reply)
 }
 
 /// Writes the line of a refusal, and passes it on: what it means stands after it.

@@ -5,10 +5,12 @@ ghost use Rattle.host_core.specs.declared.reply.Reply.TheVariants.{Begun, Done};
 ghost use Rattle.host_types.specs.Events.{tenant_of};
 ghost use Rattle.host_file.specs.Faults.{IsBad};
 ghost use Rattle.host_file.specs.declared.command.Command.TheVariants.{Run};
+ghost use Rattle.engines.specs.Beginnings.{begin_event};
 ghost use Rattle.engines.specs.Replay.{AreOf, AreOfAll, AreStepsToEnd, AreVisits, latest_run, one_more_run, pages_after, runs_begun};
 ghost use Rattle.engines.specs.Sessions.{AreStepsMade, HasPrinted, IsOneEvent, Performs};
 
-use crate::explanation::{Known, explain_event};
+use crate::beginning::Beginning;
+use crate::explanation::{Known, explain_beginning, explain_event};
 use crate::fault::written;
 use crate::lines::write_reply;
 use crate::watch::Watch;
@@ -104,7 +106,18 @@ impl Session {
                 self.make_steps(number, *tenant, u64::from(*count), writer, diagnostics)
             }
             Command::Finish { tenant } => self.finish(number, *tenant, writer, diagnostics),
-            Command::Run(event) => self.run(number, event, writer, diagnostics),
+            Command::Run {
+                tenant,
+                program,
+                context,
+            } => {
+                let beginning = Beginning {
+                    tenant: *tenant,
+                    program: *program,
+                    context,
+                };
+                self.run(number, &beginning, writer, diagnostics)
+            }
             Command::Visit { count } => {
                 let count = count.unwrap_or(self.pages_to_scan);
                 self.visit(number, count, writer, diagnostics, watch)
@@ -133,25 +146,47 @@ impl Session {
         Ok(())
     }
 
-    /// Applies the event that is to open a run, and makes the run's steps where it did.
+    /// Opens a run, and makes its steps where it is open then.
     fn run<W: Write, E: Write>(
         &mut self,
         number: usize,
-        event: &Event,
+        beginning: &Beginning<'_>,
         writer: &mut W,
         diagnostics: &mut E,
     ) -> Result<(), FileFault>
-        ensures performs { OnOk result (Performs (AreOf self.old.pages_to_scan (Run event.now)) self.old self.new (W.contents writer.old) (W.contents writer.new)) }
+        ensures performs { OnOk result (Performs (AreOf self.old.pages_to_scan (Run beginning.now.tenant beginning.now.program beginning.now.context.now))
+            self.old self.new (W.contents writer.old) (W.contents writer.new)) }
         ensures bad { IfErr result (λ fault. ¬ IsBad fault) }
     {
-        let reply = self.apply(number, event, writer, diagnostics)?;
-        let Some(tenant) = event.tenant() else {
-            return Ok(());
-        };
+        let reply = self.begin(number, beginning, writer, diagnostics)?;
         if !is_begun(&reply) {
             return Ok(());
         }
-        self.finish(number, tenant, writer, diagnostics)
+        self.finish(number, beginning.tenant, writer, diagnostics)
+    }
+
+    /// Opens a run, and writes the lines of the reply if it has any.
+    fn begin<W: Write, E: Write>(
+        &mut self,
+        number: usize,
+        beginning: &Beginning<'_>,
+        writer: &mut W,
+        diagnostics: &mut E,
+    ) -> Result<Reply, FileFault>
+        ensures performs { IfOk result (λ reply. Performs (IsOneEvent (begin_event beginning.now) reply) self.old self.new (W.contents writer.old) (W.contents writer.new)) }
+        ensures bad { IfErr result (λ fault. ¬ IsBad fault) }
+    {
+        let context = beginning.context.as_slice();
+        let reply = self
+            .host
+            .begin(beginning.tenant, beginning.program, context);
+        // Of this reply as much is noted and written as of a step's.
+        let step = Event::Step {
+            tenant: beginning.tenant,
+        };
+        self.print(&step, &reply, writer)?;
+        self.explain_begun(diagnostics, number, beginning, &reply);
+        Ok(reply)
     }
 
     /// Applies an event, and writes its lines if it has any.
@@ -313,6 +348,20 @@ impl Session {
         }
     }
 
+    /// Writes, of the refusal of a run, which event of the file asked for it, and what that means.
+    fn explain_begun<E: Write>(
+        &self,
+        diagnostics: &mut E,
+        number: usize,
+        beginning: &Beginning<'_>,
+        reply: &Reply,
+    ) {
+        if let Reply::Refused(fault) = reply {
+            let loaded = self.context_size_of(beginning.tenant, beginning.program);
+            explain_beginning_at(diagnostics, number, beginning, *fault, loaded);
+        }
+    }
+
     /// The size of contexts that the program was loaded with of which an event begins a run.
     fn context_size_for(&self, event: &Event) -> Option<u32> {
         match event {
@@ -320,12 +369,15 @@ impl Session {
                 tenant,
                 program,
                 ..
-            } => {
-                let index = size_index(*tenant, *program)?;
-                self.context_sizes.get(index).copied()
-            }
+            } => self.context_size_of(*tenant, *program),
             _ => None,
         }
+    }
+
+    /// The size of contexts that a tenant's program was loaded with.
+    fn context_size_of(&self, tenant: u32, program: u32) -> Option<u32> {
+        let index = size_index(tenant, program)?;
+        self.context_sizes.get(index).copied()
     }
 
     /// The shapes of the maps by number that a program may use which an event loads.
@@ -370,4 +422,21 @@ pub fn explain_at<W: Write>(
 ) {
     let _ = write!(diagnostics, "event {number}: ");
     let _ = explain_event(alloc, diagnostics, event, fault, known);
+}
+
+/// The same of a run that wasn't opened, whose program was loaded for contexts of a size, where it is known.
+pub fn explain_beginning_at<W: Write>(
+    diagnostics: &mut W,
+    number: usize,
+    beginning: &Beginning<'_>,
+    fault: Fault,
+    loaded: Option<u32>,
+) {
+    let _ = write!(diagnostics, "event {number}: ");
+    let _ = explain_beginning(
+        diagnostics,
+        beginning.context.as_slice().len(),
+        loaded,
+        fault,
+    );
 }

@@ -89,14 +89,16 @@ impl Recorder {
     fn perform(&mut self, number: usize, command: &Command) -> Result<(), AllocError> {
         let mut answer = Vec::new(self.alloc);
         match command {
-            Command::Apply(event) => {
-                self.apply(event, &mut answer)?;
-            }
+            Command::Apply(event) => self.apply(event, &mut answer)?,
             Command::Step { tenant, count } => {
                 self.make_steps(*tenant, u64::from(*count), &mut answer)?;
             }
             Command::Finish { tenant } => self.make_steps(*tenant, u64::MAX, &mut answer)?,
-            Command::Run(event) => self.run(event, &mut answer)?,
+            Command::Run {
+                tenant,
+                program,
+                context,
+            } => self.run(*tenant, *program, context.as_slice(), &mut answer)?,
             Command::Visit { count } => {
                 return self.visit(number, count.unwrap_or(self.pages_to_scan));
             }
@@ -104,13 +106,11 @@ impl Recorder {
         self.note(Some(number), None, answer)
     }
 
-    /// Applies an event. Answers whether a run was begun.
-    fn apply(&mut self, event: &Event, answer: &mut Vec<u8>) -> Result<bool, AllocError> {
+    /// Applies an event.
+    fn apply(&mut self, event: &Event, answer: &mut Vec<u8>) -> Result<(), AllocError> {
         let reply = self.host.apply(event);
-        if let (Some(tenant), Reply::Begun) = (event.tenant(), &reply) {
-            if let Some(count) = self.begun.get_mut(tenant as usize) {
-                *count = count.saturating_add(1);
-            }
+        if let Some(tenant) = event.tenant() {
+            self.count_run(tenant, &reply);
         }
         if let (
             Event::Set {
@@ -122,16 +122,33 @@ impl Recorder {
         {
             self.pages_to_scan = *value;
         }
-        self.note_reply(event, &reply, answer)?;
-        Ok(matches!(reply, Reply::Begun))
+        self.note_reply(event, &reply, answer)
     }
 
-    /// Applies the event that is to open a run, and makes the run's steps where it did.
-    fn run(&mut self, event: &Event, answer: &mut Vec<u8>) -> Result<(), AllocError> {
-        let is_begun = self.apply(event, answer)?;
-        match event.tenant() {
-            Some(tenant) if is_begun => self.make_steps(tenant, u64::MAX, answer),
+    /// Opens a run, and makes its steps where it is open then.
+    fn run(
+        &mut self,
+        tenant: u32,
+        program: u32,
+        context: &[u8],
+        answer: &mut Vec<u8>,
+    ) -> Result<(), AllocError> {
+        let reply = self.host.begin(tenant, program, context);
+        self.count_run(tenant, &reply);
+        // The lines of this reply are those of a step's.
+        self.note_reply(&Event::Step { tenant }, &reply, answer)?;
+        match reply {
+            Reply::Begun => self.make_steps(tenant, u64::MAX, answer),
             _ => Ok(()),
+        }
+    }
+
+    /// Counts a run of a tenant, where a reply says that it was begun.
+    fn count_run(&mut self, tenant: u32, reply: &Reply) {
+        if let Reply::Begun = reply {
+            if let Some(count) = self.begun.get_mut(tenant as usize) {
+                *count = count.saturating_add(1);
+            }
         }
     }
 

@@ -2,7 +2,7 @@
 
 use host_core::Event;
 use host_file::Command;
-use host_types::Opt;
+use host_types::{Bytes, Opt};
 use std::fmt;
 
 /// The most bytes of a value, a text or a context that are written.
@@ -19,8 +19,12 @@ struct Digits<'a>(&'a [u8]);
 impl fmt::Display for Words<'_> {
     fn fmt<W: fmt::Write>(&self, f: &mut fmt::Formatter<W>) -> fmt::Result {
         match self.0 {
-            Command::Apply(event) => write_event(f, event, "begin"),
-            Command::Run(event) => write_event(f, event, "run"),
+            Command::Apply(event) => write_event(f, event),
+            Command::Run {
+                tenant,
+                program,
+                context,
+            } => write_beginning(f, "run", *tenant, *program, context),
             Command::Step { tenant, count } => write!(f, "step, tenant {tenant}, count {count}"),
             Command::Finish { tenant } => write!(f, "finish, tenant {tenant}"),
             Command::Visit { count: Some(count) } => write!(f, "visit, count {count}"),
@@ -29,12 +33,23 @@ impl fmt::Display for Words<'_> {
     }
 }
 
-/// Writes an event of the host. `begin` is what opens a run.
-fn write_event<W: fmt::Write>(
+/// Writes what opens a run. `does` is the word for it.
+fn write_beginning<W: fmt::Write>(
     f: &mut fmt::Formatter<W>,
-    event: &Event,
-    begin: &str,
+    does: &str,
+    tenant: u32,
+    program: u32,
+    context: &Bytes,
 ) -> fmt::Result {
+    let context = Digits(context.as_slice());
+    write!(
+        f,
+        "{does}, tenant {tenant}, program {program}, context {context}"
+    )
+}
+
+/// Writes an event of the host.
+fn write_event<W: fmt::Write>(f: &mut fmt::Formatter<W>, event: &Event) -> fmt::Result {
     match event {
         Event::CreateMap {
             tenant,
@@ -66,13 +81,7 @@ fn write_event<W: fmt::Write>(
             tenant,
             program,
             context,
-        } => {
-            let context = Digits(context.as_slice());
-            write!(
-                f,
-                "{begin}, tenant {tenant}, program {program}, context {context}"
-            )
-        }
+        } => write_beginning(f, "begin", *tenant, *program, context),
         Event::HostUpdate {
             tenant,
             map,

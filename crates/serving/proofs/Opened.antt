@@ -184,7 +184,7 @@ pub opened-else : (command : Command) (plans : List TenantPlan) → ((event : Ev
 opened-else (Apply event) plans differs = absurd (differs event refl)
 opened-else (Step tenant count) plans differs = opened-nothing (Step tenant count) plans (λ t home. refl)
 opened-else (Finish tenant) plans differs = opened-nothing (Finish tenant) plans (λ t home. refl)
-opened-else (Run event) plans differs = opened-nothing (Run event) plans (λ t home. refl)
+opened-else (Run tenant program context) plans differs = opened-nothing (Run tenant program context) plans (λ t home. refl)
 opened-else (Visit count) plans differs = opened-nothing (Visit count) plans (λ t home. refl)
 
 -- one more new plan

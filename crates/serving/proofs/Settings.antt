@@ -57,7 +57,7 @@ pub settable-else : (command : Command) → ((event : Event) → command ≡ App
 settable-else (Apply event) differs = absurd (differs event refl)
 settable-else (Step tenant count) differs = tt
 settable-else (Finish tenant) differs = tt
-settable-else (Run event) differs = tt
+settable-else (Run tenant program context) differs = tt
 settable-else (Visit count) differs = tt
 
 -- all of the commands

@@ -1,7 +1,7 @@
 -- What a host file's threads are to do (docs/HOST.md): a function of its commands.
 use Rattle.std.specs.Prelude.{◌≡◌, ◌++◌, ◌<◌, ℕ, List, [], ◌∷◌, length, fold, flat_map, sum_by, min, nat_eq, get_or, Some, None, if◌then◌else◌}
 use Rattle.host_types.specs.declared.options.Opt.TheVariants.{PagesToScan}
-use Rattle.host_types.specs.declared.event.Event.TheVariants.{Begin, Set}
+use Rattle.host_types.specs.declared.event.Event.TheVariants.{Set}
 use Rattle.host_file.specs.declared.command.Command.{Command}
 use Rattle.host_file.specs.declared.command.Command.TheVariants.{Apply, Run, Visit}
 use Rattle.tenant_workers.specs.declared.plans.TenantPlan.{TenantPlan}
@@ -9,7 +9,7 @@ use Rattle.tenant_workers.specs.Plans.{Planned, planned_by}
 
 -- the run that a command asks of a tenant, by its program's number and its context
 abbrev pub run_for : ℕ → Command → List (ℕ × List ℕ)
-run_for tenant (Run (Begin named program context)) = if nat_eq named tenant then (program, context) ∷ [] else []
+run_for tenant (Run named program context) = if nat_eq named tenant then (program, context) ∷ [] else []
 run_for tenant _ = []
 
 -- all runs that a file asks of a tenant, in the file's order

@@ -12,7 +12,7 @@ use Rattle.serving.specs.Report.{Telling, Answered}
 
 -- the event by which a command begins a run of a tenant
 abbrev pub beginning_for : ℕ → Command → List Event
-beginning_for tenant (Run (Begin named program context)) = if nat_eq named tenant then Begin named program context ∷ [] else []
+beginning_for tenant (Run named program context) = if nat_eq named tenant then Begin named program context ∷ [] else []
 beginning_for tenant _ = []
 
 -- all of them, in the file's order

@@ -4,11 +4,14 @@ ghost use Rattle.std.specs.Prelude.{◌≡◌, ◌||◌, IfErr, IfOk, OnOk};
 ghost use Rattle.host_core.specs.declared.reply.Reply.TheVariants.{Refused};
 ghost use Rattle.std.specs.Io.KnownBytes.{Appends};
 ghost use Rattle.host_file.specs.Faults.{IsBad};
+ghost use Rattle.engines.specs.Beginnings.{begin_event};
 ghost use Rattle.engines.specs.Lines.{reply_lines};
 ghost use Rattle.engines.specs.Replay.{is_refusal};
 
 use crate::setup::Stop;
-use engines::{Known, explain_at, write_reply};
+use engines::{
+    Beginning, Known, explain_at, explain_beginning_at, write_beginning_reply, write_reply,
+};
 use host_core::{Event, Reply};
 use host_file::{Command, FileFault};
 use host_types::Shape;
@@ -23,29 +26,54 @@ pub(crate) struct Report {
 }
 
 impl Report {
-    /// Writes the line of what the file's event of this number was answered, and what a refusal means. A run
-    /// has a number among those that its tenant began. The file's commands say what its program was loaded with.
+    /// Writes the line of what the file's event of this number was answered, and what a refusal means.
     pub(crate) fn print<W: Write, E: Write>(
         &mut self,
         writer: &mut W,
         diagnostics: &mut E,
         number: usize,
         event: &Event,
+        reply: &Reply,
+    ) -> Result<(), FileFault>
+        ensures refused { OnOk result (self.new.has_refused ≡ (self.old.has_refused || is_refusal reply.now)) }
+        ensures written { OnOk result (Appends (W.contents writer.old) (W.contents writer.new) (reply_lines event.now 0 reply.now)) }
+        ensures bad { IfErr result (λ fault. ¬ IsBad fault) }
+    {
+        write_reply(writer, event, 0, reply)?;
+        if let Reply::Refused(fault) = reply {
+            explain_at(
+                self.alloc,
+                diagnostics,
+                number,
+                event,
+                *fault,
+                &with_shapes(&[]),
+            );
+            self.has_refused = true;
+        }
+        Ok(())
+    }
+
+    /// Writes the line of what the run was answered that the file's event of this number asks for, and what a refusal means.
+    /// The run has a number among those that its tenant began. The file's commands say what its program was loaded with.
+    pub(crate) fn print_run<W: Write, E: Write>(
+        &mut self,
+        writer: &mut W,
+        diagnostics: &mut E,
+        number: usize,
+        beginning: &Beginning<'_>,
         run: u64,
         reply: &Reply,
         commands: &[Command],
     ) -> Result<(), FileFault>
         ensures refused { OnOk result (self.new.has_refused ≡ (self.old.has_refused || is_refusal reply.now)) }
-        ensures written { OnOk result (Appends (W.contents writer.old) (W.contents writer.new) (reply_lines event.now run reply.now)) }
+        ensures written { OnOk result (Appends (W.contents writer.old) (W.contents writer.new) (reply_lines (begin_event beginning.now) run reply.now)) }
         ensures bad { IfErr result (λ fault. ¬ IsBad fault) }
     {
-        write_reply(writer, event, run, reply)?;
+        write_beginning_reply(writer, beginning, run, reply)?;
         if let Reply::Refused(fault) = reply {
-            let known = Known {
-                shapes: &[],
-                context_size: context_size_for(event, commands),
-            };
-            explain_at(self.alloc, diagnostics, number, event, *fault, &known);
+            let loaded = context_size_of(beginning.tenant, beginning.program, commands);
+            explain_beginning_at(diagnostics, number, beginning, *fault, loaded);
             self.has_refused = true;
         }
         Ok(())
@@ -123,17 +151,9 @@ fn shapes_for(
     Ok(shapes)
 }
 
-/// The size of contexts that the program was loaded with of which an event begins a run. No load of these commands was
-/// refused, so that each has the next number of its tenant's programs.
-fn context_size_for(event: &Event, commands: &[Command]) -> Option<u32> {
-    let Event::Begin {
-        tenant,
-        program,
-        ..
-    } = event
-    else {
-        return None;
-    };
+/// The size of contexts that a tenant's program was loaded with. No load of these commands was refused, so that each has
+/// the next number of its tenant's programs.
+fn context_size_of(tenant: u32, program: u32, commands: &[Command]) -> Option<u32> {
     let mut number: u32 = 0;
     for command in commands {
         match command {
@@ -143,8 +163,8 @@ fn context_size_for(event: &Event, commands: &[Command]) -> Option<u32> {
                     context_size,
                     ..
                 },
-            ) if loaded == tenant => {
-                if number == *program {
+            ) if *loaded == tenant => {
+                if number == program {
                     return Some(*context_size);
                 }
                 number = number.saturating_add(1);

@@ -6,12 +6,14 @@ ghost use Rattle.host_core.specs.declared.reply.Reply.{Reply};
 ghost use Rattle.host_core.specs.declared.reply.Reply.TheVariants as reply;
 ghost use Rattle.host_file.specs.declared.command.Command.TheVariants.{Apply};
 ghost use Rattle.turn.specs.Seats.{own_part};
+ghost use Rattle.engines.specs.Beginnings.{begin_event};
 ghost use Rattle.serving.specs.Lookups.{AreLookedUp, IsLookedUp, lookup_by, lookup_tellings, lookups_in};
 ghost use Rattle.serving.specs.RunLines.{all_run_tellings, beginning_for, beginnings_for, run_tellings, whole_reply};
 ghost use Rattle.serving.specs.Served.{ArePrinted, outcome_of};
 ghost use Rattle.serving.specs.Report.{HasWritten};
 
 use crate::report::Report;
+use engines::Beginning;
 use host_core::{Bytes, Event, Reply};
 use host_file::{Command, FileFault};
 use host_types::Fault;
@@ -92,17 +94,17 @@ fn print_tenant<W: Write, E: Write>(
     let mut replies = replies.iter();
     let mut begun = 0u64;
     for (number, command) in commands.iter().enumerate() {
-        let Some(event) = run_of(tenant, command) else {
+        let Some(beginning) = run_of(tenant, command) else {
             continue;
         };
         let Some(answer) = replies.next() else {
             return Ok(());
         };
-        printed.print(
+        printed.print_run(
             writer,
             diagnostics,
             number,
-            event,
+            &beginning,
             begun,
             &reply_of(answer),
             commands,
@@ -112,15 +114,20 @@ fn print_tenant<W: Write, E: Write>(
     Ok(())
 }
 
-/// The event that opens a command's run, where it is a run of this tenant.
-fn run_of(tenant: usize, command: &Command) -> Option<&Event>
-    ensures begins { MatchOption result (beginning_for tenant command.now ≡ []) (λ event. beginning_for tenant command.now ≡ event.now ∷ []) }
+/// What opens a command's run, where it is a run of this tenant.
+fn run_of(tenant: usize, command: &Command) -> Option<Beginning<'_>>
+    ensures begins { MatchOption result (beginning_for tenant command.now ≡ []) (λ beginning. beginning_for tenant command.now ≡ begin_event beginning ∷ []) }
 {
-    let Command::Run(event) = command else {
-        return None;
-    };
-    match event {
-        Event::Begin { tenant: named, .. } if *named as usize == tenant => Some(event),
+    match command {
+        Command::Run {
+            tenant: named,
+            program,
+            context,
+        } if *named as usize == tenant => Some(Beginning {
+            tenant: *named,
+            program: *program,
+            context,
+        }),
         _ => None,
     }
 }
@@ -158,7 +165,7 @@ fn print_lookups<W: Write, E: Write>(
             continue;
         };
         if let Some(reply) = looked_up(rt, alloc, plans, event) {
-            printed.print(writer, diagnostics, number, event, 0, &reply, commands)?;
+            printed.print(writer, diagnostics, number, event, &reply)?;
         }
     }
     Ok(())

@@ -39,13 +39,11 @@ fn add_run(
     ensures own { All (IsFor shared.now) plans.new }
     ensures planned { OnOk result (HaveRuns (command.now ∷ []) plans.old plans.new) }
 {
-    let Command::Run(
-        Event::Begin {
-            tenant,
-            program,
-            context,
-        },
-    ) = command
+    let Command::Run {
+        tenant,
+        program,
+        context,
+    } = command
     else {
         return Ok(());
     };

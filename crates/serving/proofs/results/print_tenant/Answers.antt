@@ -1,6 +1,7 @@
 use Rattle.std.proofs.Common.{◌≡◌, ◌≤◌, ◌∙◌, ◌+◌, ap, is_ok, arith}
 use mir.Val.{bool_byte}
 use Rattle.std.specs.Slice.Iter.{iter_rest}
+use Rattle.engines.specs.Beginnings.{begin_event}
 use Rattle.serving.proofs.RunLines.{byte-most, made-count, runs-more}
 use Rattle.serving.proofs.Tellings.{upto-next}
 use Rattle.serving.proofs.results.print_tenant.Goals as goal
@@ -17,7 +18,7 @@ loop-number-preserved g c =
     record {
       few = omega (arith, sum, so_far.few, most);
       lines = upto-next _ _ _ _ _ _ _ _ _ _
-          (runs-more c.args.tenant c.args.commands.now c.loop-number.number c.index-commands-number.result c.in-Some.event.now (iter_rest c.loop-number.replies) (iter_rest c.next.new.self)
+          (runs-more c.args.tenant c.args.commands.now c.loop-number.number c.index-commands-number.result (begin_event c.in-Some.beginning) (iter_rest c.loop-number.replies) (iter_rest c.next.new.self)
           answer c.loop-number.begun c.saturating_add-begun.result c.loop-number-test.true c.index-commands-number.is c.in-Some.ensures.begins c.in-Some-next.ensures.steps counted)
-          (rw c.reply_of.ensures at c.in_ok-print.ensures.refused) (rw c.reply_of.ensures at c.in_ok-print.ensures.written) so_far.lines;
+          (rw c.reply_of.ensures at c.in_ok-print_run.ensures.refused) (rw c.reply_of.ensures at c.in_ok-print_run.ensures.written) so_far.lines;
     }
