@@ -211,7 +211,7 @@ noted-stepped w next host t limit events replies old was stands (steps, answers)
       written = subst (Appends was was) (sym (lines-stepped limit t begun)) (Appends-none was);
     })
 
--- a reply to what opens a run has the lines that it has as a step's
+-- a reply to what opens a run has the lines that it has as a reply to a step
 pub begin-lines : (t program run : ℕ) (context : List ℕ) (reply : Reply) → reply_lines (Step t) run reply ≡ reply_lines (Begin t program context) run reply
 begin-lines t program run context (Map m) = refl
 begin-lines t program run context (Program k) = refl
@@ -237,7 +237,7 @@ begin-begun t program context begun (Value value) = refl
 begin-begun t program context begun (Counters counters) = refl
 begin-begun t program context begun (Refused fault) = refl
 
--- what a session noted and wrote of it as a step's
+-- what a session noted and wrote of it as a reply to a step
 begin-printed : (t program : ℕ) (context : List ℕ) (reply : Reply) (old new : Session) (was is : Option (List ℕ))
     → HasPrinted (Step t) reply old new was is → HasPrinted (Begin t program context) reply old new was is
 begin-printed t program context reply old new was is printed = record {

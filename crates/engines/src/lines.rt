@@ -81,7 +81,7 @@ pub fn write_beginning_reply<W: Write>(
     ensures lines { OnOk result (Appends (W.contents writer.old) (W.contents writer.new) (reply_lines (begin_event beginning.now) run reply.now)) }
     ensures bad { IfErr result (λ fault. ¬ IsBad fault) }
 {
-    // Of these lines and those of a step's reply each names the tenant alone.
+    // Of its event such a line names the tenant alone, as that of a reply to a step does.
     let step = Event::Step {
         tenant: beginning.tenant,
     };

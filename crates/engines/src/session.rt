@@ -180,7 +180,7 @@ impl Session {
         let reply = self
             .host
             .begin(beginning.tenant, beginning.program, context);
-        // Of this reply as much is noted and written as of a step's.
+        // What is noted and written of this reply is what would be of a reply to a step.
         let step = Event::Step {
             tenant: beginning.tenant,
         };

@@ -135,7 +135,7 @@ impl Recorder {
     ) -> Result<(), AllocError> {
         let reply = self.host.begin(tenant, program, context);
         self.count_run(tenant, &reply);
-        // The lines of this reply are those of a step's.
+        // The lines of this reply are those of a reply to a step.
         self.note_reply(&Event::Step { tenant }, &reply, answer)?;
         match reply {
             Reply::Begun => self.make_steps(tenant, u64::MAX, answer),
