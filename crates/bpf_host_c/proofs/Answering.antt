@@ -41,18 +41,18 @@ copied-answered Done result old new copied = absurd copied
 copied-answered (Counters counters) result old new copied = absurd copied
 
 -- one that took no memory isn't refused for it
-pub copied-not_lacking : (reply : Reply) (result : Result ℕ Fault) (old new : List ℕ) → IsCopied reply result old new → IfErr result (λ fault. fault ≢ OutOfMemory) → Replied reply ≢ Replied (Refused OutOfMemory)
-copied-not_lacking (Refused fault) (Err refused) old new (same, is) lacks_none is_lacking = lacks_none (let is_fault : fault ≡ OutOfMemory = cc in same ∙ is_fault)
-copied-not_lacking (Refused fault) (Ok size) old new copied lacks_none is_lacking = absurd copied
-copied-not_lacking (Value bytes) result old new copied lacks_none is_lacking = absurd (cc)
-copied-not_lacking (Map number) result old new copied lacks_none is_lacking = absurd copied
-copied-not_lacking (Program number) result old new copied lacks_none is_lacking = absurd copied
-copied-not_lacking Begun result old new copied lacks_none is_lacking = absurd copied
-copied-not_lacking Stepped result old new copied lacks_none is_lacking = absurd copied
-copied-not_lacking (Ended number steps) result old new copied lacks_none is_lacking = absurd copied
-copied-not_lacking (Visited visited) result old new copied lacks_none is_lacking = absurd copied
-copied-not_lacking Done result old new copied lacks_none is_lacking = absurd copied
-copied-not_lacking (Counters counters) result old new copied lacks_none is_lacking = absurd copied
+pub copied-not_out_of_memory : (reply : Reply) (result : Result ℕ Fault) (old new : List ℕ) → IsCopied reply result old new → IfErr result (λ fault. fault ≢ OutOfMemory) → Replied reply ≢ Replied (Refused OutOfMemory)
+copied-not_out_of_memory (Refused fault) (Err refused) old new (same, is) never_out is_out = never_out (let is_fault : fault ≡ OutOfMemory = cc in same ∙ is_fault)
+copied-not_out_of_memory (Refused fault) (Ok size) old new copied never_out is_out = absurd copied
+copied-not_out_of_memory (Value bytes) result old new copied never_out is_out = absurd (cc)
+copied-not_out_of_memory (Map number) result old new copied never_out is_out = absurd copied
+copied-not_out_of_memory (Program number) result old new copied never_out is_out = absurd copied
+copied-not_out_of_memory Begun result old new copied never_out is_out = absurd copied
+copied-not_out_of_memory Stepped result old new copied never_out is_out = absurd copied
+copied-not_out_of_memory (Ended number steps) result old new copied never_out is_out = absurd copied
+copied-not_out_of_memory (Visited visited) result old new copied never_out is_out = absurd copied
+copied-not_out_of_memory Done result old new copied never_out is_out = absurd copied
+copied-not_out_of_memory (Counters counters) result old new copied never_out is_out = absurd copied
 
 pub begun_is : (reply : Reply) → is_begun reply ≡ true → reply ≡ Begun
 begun_is Begun so = refl

@@ -108,9 +108,9 @@ by_map first key have value shape None is each = absurd (cc)
 by_map first key have value shape (Some flat) is each = each flat (cc)
 
 -- what a refusal of a lookup is not: memory that ran out
-refused-not_lacking : (found : Option FlatMap) (key : ℕ) (fault : Fault) → lookup_refusal_in found key ≡ Some fault → fault ≢ OutOfMemory
-refused-not_lacking None key fault refused lacks = absurd (cc)
-refused-not_lacking (Some flat) key fault refused lacks = by_test (nat_le flat.shape.entries key) refl
+refused-not_out_of_memory : (found : Option FlatMap) (key : ℕ) (fault : Fault) → lookup_refusal_in found key ≡ Some fault → fault ≢ OutOfMemory
+refused-not_out_of_memory None key fault refused is_out = absurd (cc)
+refused-not_out_of_memory (Some flat) key fault refused is_out = by_test (nat_le flat.shape.entries key) refl
   where
     by_test : (b : Bool) → nat_le flat.shape.entries key ≡ b → ⊥
     by_test true answered = absurd (let is = rw answered at refused in cc)
@@ -155,8 +155,8 @@ module _ (memory : MemoryState) (t m key : ℕ) (value : List ℕ) where
   pub lookup_takes_none : (fault : Fault) → refused_lookup memory t m key ≡ Some fault → fault ≢ OutOfMemory
   lookup_takes_none fault refused =
       by_there (fault ≢ OutOfMemory)
-      (λ answered. refused-not_lacking found key fault (sym (ap (λ b. if b then lookup_refusal_in found key else Some BadTenant) answered) ∙ refused))
-      (λ answered lacks. let is : Some BadTenant ≡ Some fault = sym (ap (λ b. if b then lookup_refusal_in found key else Some BadTenant) answered) ∙ refused in absurd (cc))
+      (λ answered. refused-not_out_of_memory found key fault (sym (ap (λ b. if b then lookup_refusal_in found key else Some BadTenant) answered) ∙ refused))
+      (λ answered is_out. let is : Some BadTenant ≡ Some fault = sym (ap (λ b. if b then lookup_refusal_in found key else Some BadTenant) answered) ∙ refused in absurd (cc))
 
   pub lookup_refuses : (fault : Fault) → refused_lookup memory t m key ≡ Some fault → RefusesLookup owned m key fault
   lookup_refuses fault refused = inl refused

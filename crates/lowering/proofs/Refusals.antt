@@ -12,7 +12,7 @@ no_fault : WellFormedHasNoFault
 no_fault text refused well (inl short) = short.0 well.sized
 no_fault text refused well (inr fails) = absurd (cc (well.fine refused.slot fails.instruction.within fails.instruction.begins, fails.fault))
 
--- only memory may be lacking for a subject that is accepted
+-- a subject that is accepted is refused for memory alone
 pub accepted_is_refused_for_memory : (p : Subject) (refused : Refused) → VerifierAccepts p → IsRefusedBy p refused → refused ≡ out_of_memory
 accepted_is_refused_for_memory p refused accepted (inl scarce) = scarce
 accepted_is_refused_for_memory p refused accepted (inr (inl fault)) =

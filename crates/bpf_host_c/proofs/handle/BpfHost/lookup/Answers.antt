@@ -3,7 +3,7 @@ use Rattle.host_types.specs.declared.event.Event.TheVariants.{HostLookup}
 use Rattle.host_core.specs.HostView.{HostView, StandsForSystem}
 use Rattle.bpf_host_c.specs.declared.answer.Answer.TheVariants.{Replied}
 use Rattle.bpf_host_c.specs.Answered.{Serves}
-use Rattle.bpf_host_c.proofs.Answering.{answered, copied-answered, copied-not_lacking}
+use Rattle.bpf_host_c.proofs.Answering.{answered, copied-answered, copied-not_out_of_memory}
 use Rattle.bpf_host_c.proofs.handle.BpfHost.lookup.Goals as goal
 
 pub returns : goal.returns
@@ -13,7 +13,7 @@ returns c =
       Replied reply,
       answered (Serves (HostLookup c.args.tenant c.args.map c.args.key)) reply c.in-Some.ensures.host c.deref.ensures c.put.ensures
           (λ x stands. (x, subst (λ (host : HostView). StandsForSystem host x) c.deref.ensures stands, happens x stands)),
-      copied-not_lacking reply c.lookup-copied.result c.args.value.now c.lookup-copied.new.value copied c.lookup-copied.ensures.memory,
+      copied-not_out_of_memory reply c.lookup-copied.result c.args.value.now c.lookup-copied.new.value copied c.lookup-copied.ensures.memory,
       c.copied_code.ensures ∙ code,
       value,
     )
