@@ -19,7 +19,7 @@ pub fn breaks(program: &Verified, slot: u32) -> u32
 
 /// Opens a run of a tenant that has none, and reserves frames for it.
 ///
-/// 31 just where the need is above `have()`; it names both numbers, and changes nothing.
+/// `NoFrames` just where the need is above `have()`; it names both numbers, and changes nothing.
 pub fn admit(memory: &mut Memory, tenant: u32, need: u32) -> Result<(), Fault>
     requires there { length (part memory.old tenant).maps ≡ 8 }
     requires none { (part memory.old tenant).running ≡ false }

@@ -168,7 +168,7 @@ fn check<'a>(alloc: Global) -> Result<Command<'a>, AllocError> {
         .required(true)
         .action(ArgAction::Set);
     Command::new(alloc, "check")
-        .about("judges a program without running it")
+        .about("verifies a program without running it")
         .arg(hex)?
         .arg(shapes(alloc))?
         .arg(context(alloc))

@@ -62,18 +62,18 @@ acceptance_text slots instructions reserve =
 abbrev pub acceptance_of : Accepted → List ℕ
 acceptance_of v = acceptance_text (slots_of v.subject.text) (instructions_of v.subject.text) (whole_need v)
 
--- A status and a line give the judgement: 0 that the program is accepted; 1 that it is refused, with the refusal
+-- A status and a line give the verdict: 0 that the program is accepted; 1 that it is refused, with the refusal
 -- that was found, which may be want of memory.
 abbrev pub PrintsVerdict : CheckRequest → ℕ → List ℕ → Type 0
 PrintsVerdict asked status line =
     ((status ≡ 0) × ((accepted : Accepted) × (line ≡ line_of (acceptance_of accepted)) × IsAccepted (subject_asked asked) accepted))
     ⊎ ((status ≡ 1) × ((fault : Fault) × (line ≡ line_of (refusal_text fault)) × IsCheckRefusal asked fault))
 
--- a status and what an output took give the judgement of what is asked for
+-- a status and what an output took give the verdict of what is asked for
 abbrev pub AnswersRequest : CheckRequest → Option (List ℕ) → Option (List ℕ) → ℕ → Type 0
 AnswersRequest asked old new status = (line : List ℕ) × PrintsVerdict asked status line × Appends old new line
 
--- a status and what an output took give the judgement of what the words ask for
+-- a status and what an output took give the verdict of what the words ask for
 abbrev pub AnswersWords : List ℕ → List (Bor (List ℕ)) → List ℕ → Option (List ℕ) → Option (List ℕ) → ℕ → Type 0
 AnswersWords hex maps context old new status = (asked : CheckRequest) × IsAsked hex maps context asked × AnswersRequest asked old new status
 

@@ -59,7 +59,7 @@ pub fn answer_request<W: Write, E: Write>(
     ensures words { IfErr result (λ fault. ¬ IsOfWords fault) }
     ensures silent { OnErr result (diagnostics.new ≡ diagnostics.old) }
 {
-    match judgement(alloc, asked) {
+    match verdict(alloc, asked) {
         Ok(program) => {
             print_accepted(output, &program)?;
             Ok(0)
@@ -75,7 +75,7 @@ pub fn answer_request<W: Write, E: Write>(
 
 /// Verifies a program. How many maps it has is looked at first, then their shapes, then the size of its
 /// context.
-fn judgement(alloc: Global, asked: &CheckRequest) -> Result<Verified, Fault>
+fn verdict(alloc: Global, asked: &CheckRequest) -> Result<Verified, Fault>
     ensures accepted { IfOk result (IsAccepted (subject_asked asked.now)) }
     ensures refused { IfErr result (IsCheckRefusal asked.now) }
 {

@@ -39,7 +39,7 @@ pub struct CheckedText<'a> {
 /// register, and where there is no memory, nothing is written.
 pub fn write_findings<W: Write>(
     alloc: Global,
-    words: &mut W,
+    output: &mut W,
     checked: &CheckedText<'_>,
     refused: Refused,
 ) -> io::Result<()> {
@@ -61,14 +61,14 @@ pub fn write_findings<W: Write>(
         insn,
         kinds: Kinds::at(&verified, refused.slot),
     };
-    write_registers(words, &site)?;
-    write_unset_bytes(words, &cut, &site)
+    write_registers(output, &site)?;
+    write_unset_bytes(output, &cut, &site)
 }
 
 /// Writes what is known of the registers that an instruction reads, and what may stand there, each after a `; `,
 /// where the instruction breaks this rule. Of a rule that goes by no register nothing is written.
 pub fn write_limits<W: Write>(
-    words: &mut W,
+    output: &mut W,
     checked: &CheckedText<'_>,
     refused: Refused,
     kinds: &Kinds,
@@ -81,7 +81,7 @@ pub fn write_limits<W: Write>(
                 insn,
                 kinds: *kinds,
             };
-            write_registers(words, &site)
+            write_registers(output, &site)
         }
         _ => Ok(()),
     }
@@ -94,22 +94,22 @@ fn is_of_values(refused: Refused) -> bool {
 }
 
 /// Writes what is known of the registers that are read.
-fn write_registers<W: Write>(words: &mut W, site: &Site<'_>) -> io::Result<()> {
+fn write_registers<W: Write>(output: &mut W, site: &Site<'_>) -> io::Result<()> {
     for register in registers_read(&site.insn) {
         // R10 is what it always is, and numbers above are no register's.
         if register < FRAME_POINTER {
-            write_known(words, site, register)?;
+            write_known(output, site, register)?;
         }
     }
     Ok(())
 }
 
 /// Writes what was known of a register, and what may stand there.
-fn write_known<W: Write>(words: &mut W, site: &Site<'_>, register: u8) -> io::Result<()> {
+fn write_known<W: Write>(output: &mut W, site: &Site<'_>, register: u8) -> io::Result<()> {
     let kind = site.kind(register);
-    write!(words, "; {}", Known { register, kind })?;
+    write!(output, "; {}", Known { register, kind })?;
     match kind.and_then(|kind| Limit::of(site, register, kind)) {
-        Some(limit) => write!(words, "{limit}"),
+        Some(limit) => write!(output, "{limit}"),
         None => Ok(()),
     }
 }

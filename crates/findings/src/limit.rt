@@ -1,9 +1,13 @@
 use crate::access::Access;
 use crate::site::Site;
 use bpf_decode::{AluCode, Operation, Source, Width};
+use host_types::layout::STACK_SIZE;
 use host_types::rule::{MISALIGNED, OUTSIDE_CONTEXT, OUTSIDE_MAP, OUTSIDE_STACK};
 use std::fmt;
 use verifier_kinds::{Kind, OFFSET_BIAS, Offsets, Range};
+
+/// The bytes of the stack, below R10.
+const STACK: i64 = STACK_SIZE as i64;
 
 /// What may stand in a register of the refused instruction.
 #[derive(Clone, Copy, Debug)]
@@ -51,7 +55,7 @@ impl Limit {
             Kind::Stack(at) if number == OUTSIDE_STACK => {
                 let access = Access::by(site, register)?;
                 let at = i64::from(at);
-                Some(Limit::of_access(access, (at, at), -512, 0))
+                Some(Limit::of_access(access, (at, at), -STACK, 0))
             }
             _ => None,
         }

@@ -9,7 +9,7 @@ use verifier_kinds::Kind;
 
 /// Writes which bytes of the stack a refused helper would read that weren't stored.
 pub fn write_unset_bytes<W: Write>(
-    words: &mut W,
+    output: &mut W,
     cut: &Cut<'_>,
     site: &Site<'_>,
 ) -> io::Result<()> {
@@ -19,13 +19,13 @@ pub fn write_unset_bytes<W: Write>(
     if site.refused.number != UNSET_STACK {
         return Ok(());
     }
-    write_unset_of(words, cut, "the key", site.kind(2), 4)?;
+    write_unset_of(output, cut, "the key", site.kind(2), 4)?;
     match (
         MapHelper::of(site.insn.immediate()),
         site.named_value_size(),
     ) {
         (Some(MapHelper::Update), Some(size)) => {
-            write_unset_of(words, cut, "the value", site.kind(3), size)
+            write_unset_of(output, cut, "the value", site.kind(3), size)
         }
         _ => Ok(()),
     }
@@ -34,7 +34,7 @@ pub fn write_unset_bytes<W: Write>(
 /// Writes which of so many bytes from an address of the stack on weren't stored: the first, and up to which
 /// none is.
 fn write_unset_of<W: Write>(
-    words: &mut W,
+    output: &mut W,
     cut: &Cut<'_>,
     what: &str,
     kind: Option<Kind>,
@@ -51,10 +51,10 @@ fn write_unset_of<W: Write>(
         .last();
     match last {
         Some(last) if first < last => write!(
-            words,
+            output,
             "; bytes {first} to {last} of {what} aren't stored"
         ),
-        _ => write!(words, "; byte {first} of {what} isn't stored"),
+        _ => write!(output, "; byte {first} of {what} isn't stored"),
     }
 }
 

@@ -92,7 +92,7 @@ fn verify_next(
         }
         None => {
             let hex = hex::encode(rt.alloc(), text.as_slice())?;
-            println!(rt; "text {number} is judged otherwise by the plain verifier: {hex}")?;
+            println!(rt; "text {number} has another verdict by the reference verifier: {hex}")?;
             Ok(false)
         }
     }

@@ -1,7 +1,7 @@
 //! Texts that a program becomes by a few changes that are drawn.
 
 use crate::fixture::Fixture;
-use crate::runs::{Judgement, found_of};
+use crate::runs::{Outcome, found_of};
 use std::alloc::{AllocError, Global};
 use std::io;
 use tests_inputs::{BITS, Draws, flip};
@@ -164,14 +164,14 @@ impl Drawn {
         for _ in 0..count {
             let drawn = self.text(alloc, text)?;
             match found_of(alloc, fixture, drawn.as_slice()) {
-                Judgement::RefusedByDecoder => {
+                Outcome::RefusedByDecoder => {
                     self.refused_by_decoder = self.refused_by_decoder.saturating_add(1);
                 }
-                Judgement::RefusedByVerifier => {
+                Outcome::RefusedByVerifier => {
                     self.refused_by_verifier = self.refused_by_verifier.saturating_add(1);
                 }
-                Judgement::Ran => self.ran = self.ran.saturating_add(1),
-                Judgement::Differs => return Ok(false),
+                Outcome::Ran => self.ran = self.ran.saturating_add(1),
+                Outcome::Differs => return Ok(false),
             }
         }
         Ok(true)

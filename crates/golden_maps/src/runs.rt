@@ -153,7 +153,7 @@ pub(crate) fn is_refused_or_agrees(alloc: Global, fixture: &Fixture, text: &[u8]
 }
 
 /// What is found of a text, by the program and by the plain verifier and the plain machine.
-pub(crate) enum Judgement {
+pub(crate) enum Outcome {
     RefusedByDecoder,
     /// The plain verifier refuses it alike.
     RefusedByVerifier,
@@ -163,16 +163,16 @@ pub(crate) enum Judgement {
 }
 
 /// What is found of a text.
-pub(crate) fn found_of(alloc: Global, fixture: &Fixture, text: &[u8]) -> Judgement {
+pub(crate) fn found_of(alloc: Global, fixture: &Fixture, text: &[u8]) -> Outcome {
     let verified = verdict(alloc, fixture, text);
     if !is_verdict_alike(alloc, fixture, text, &verified) {
-        return Judgement::Differs;
+        return Outcome::Differs;
     }
     match verified {
-        Ok(program) if gone(alloc, fixture, text, &program).is_some() => Judgement::Ran,
-        Err(refused) if refused.number <= CUT_WIDE => Judgement::RefusedByDecoder,
-        Err(refused) if refused != Refused::OUT_OF_MEMORY => Judgement::RefusedByVerifier,
-        _ => Judgement::Differs,
+        Ok(program) if gone(alloc, fixture, text, &program).is_some() => Outcome::Ran,
+        Err(refused) if refused.number <= CUT_WIDE => Outcome::RefusedByDecoder,
+        Err(refused) if refused != Refused::OUT_OF_MEMORY => Outcome::RefusedByVerifier,
+        _ => Outcome::Differs,
     }
 }
 

@@ -1,4 +1,4 @@
-//! Calls that may answer 41. A body that always does fulfils its contract, as memory may run out.
+//! Calls that may answer `OutOfMemory`. A body that always does fulfils its contract, as memory may run out.
 
 use crate::print;
 use crate::tenants::{Tenant, two_tenants};

@@ -208,8 +208,9 @@ fn fulfil_once<R: Threads + Wait + Sync>(rt: &R, alloc: Global) -> Result<bool, 
     Ok(counted && gate.alone.load(Ordering::SeqCst) == 0)
 }
 
-/// How often both go on, of twenty times. A `serve` that runs one tenant after the other, or that answers each run 41
-/// without a thread, is ruled out by it; one that holds the turn through a run by `turn_held_through_run`.
+/// How often both go on, of twenty times. A `serve` that runs one tenant after the other, or that answers each run
+/// `OutOfMemory` without a thread, is ruled out by it; one that holds the turn through a run by
+/// `turn_held_through_run`.
 fn meetings<R: AllocGlobal + Threads + Wait + Sync>(rt: &R) -> Result<u32, Fault> {
     let mut fulfilled = 0u32;
     for _time in 0..20 {

@@ -14,7 +14,7 @@ use verifier::Verified;
 /// and updates may take, whichever pages share frames. The tenant has no other open run, and nothing is reserved
 /// for it before.
 ///
-/// 31 just where these are more than `have()`; it names both numbers, and changes nothing.
+/// `NoFrames` just where these are more than `have()`; it names both numbers, and changes nothing.
 #[tactic(auto, using(crate::proofs::Begins::begin_refused, crate::proofs::Begins::begin_answered))]
 pub fn host_begin(memory: &mut Memory, tenant: u32, program: &Verified) -> Result<(), Fault>
     requires there { IsThere (part memory.old tenant) }

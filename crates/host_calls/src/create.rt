@@ -9,9 +9,9 @@ use page_table::Memory;
 
 /// Makes a map of zeros for a tenant, at its first free number. Its pages were never visited.
 ///
-/// Refusals in their order: 42 where there is no such tenant, 32 where it has eight maps, 33 where the
-/// shape is out of limits, 31 just where the map's pages are more than `have()`; it names both numbers. A
-/// refusal changes nothing. The call takes no memory.
+/// Refusals in their order: `BadTenant` where there is no such tenant, `TooManyMaps` where it has eight maps,
+/// `BadShape` where the shape is out of limits, `NoFrames` just where the map's pages are more than `have()`;
+/// it names both numbers. A refusal changes nothing. The call takes no memory.
 #[tactic(auto, using(crate::proofs::NewMaps::new_map_first, crate::proofs::NewMaps::new_map_refused, crate::proofs::NewMaps::new_map_answered))]
 pub fn host_create_map(
     memory: &mut Memory,

@@ -12,8 +12,8 @@ use verifier::{Verified, verify};
 /// Verifies a text as a program that may use maps of these shapes by number, `None` where no map has the number,
 /// and whose context has so many bytes: it is accepted if it is well formed and breaks no rule.
 ///
-/// A refusal is the text's first fault, 1 to 5, or else the first rule that it breaks, 11 to 25; or 41 where
-/// memory ran out, and only of a text without a fault.
+/// A refusal is the text's first fault (`BadLength` to `CutWide`), or else the first rule that it breaks
+/// (`BackJump` to `PointerLeaks`); or `OutOfMemory` where memory ran out, and only of a text without a fault.
 pub fn decode_and_verify(
     alloc: Global,
     shapes: &[Option<Shape>],

@@ -14,8 +14,8 @@ use write_break::page_of;
 
 /// The value of an element of a tenant's map.
 ///
-/// Refusals in their order: 42 where there is no such tenant, 34 where it has no such map, 35 where the map
-/// has no such element, 41 where memory ran out.
+/// Refusals in their order: `BadTenant` where there is no such tenant, `NoMap` where it has no such map,
+/// `NoElement` where the map has no such element, `OutOfMemory` where memory ran out.
 #[tactic(auto, using(crate::proofs::Elements::lookup_refuses, crate::proofs::Elements::lookup_lacks))]
 pub fn host_lookup(
     alloc: Global,
@@ -39,8 +39,8 @@ pub fn host_lookup(
 /// Copies the value of an element of a tenant's map to bytes of its length, and returns that length. Bytes of another length stay as
 /// they are. It takes no memory.
 ///
-/// Refusals in their order: 42 where there is no such tenant, 34 where it has no such map, 35 where the map
-/// has no such element. A refusal leaves the bytes as they are.
+/// Refusals in their order: `BadTenant` where there is no such tenant, `NoMap` where it has no such map,
+/// `NoElement` where the map has no such element. A refusal leaves the bytes as they are.
 #[tactic(auto, using(crate::proofs::Elements::lookup_takes_none))]
 pub fn host_lookup_into(
     memory: &Memory,
@@ -64,8 +64,8 @@ pub fn host_lookup_into(
 
 /// The shape of a tenant's map that has an element.
 ///
-/// Refusals in their order: 42 where there is no such tenant, 34 where it has no such map, 35 where the map
-/// has no such element.
+/// Refusals in their order: `BadTenant` where there is no such tenant, `NoMap` where it has no such map,
+/// `NoElement` where the map has no such element.
 pub(crate) fn shape_with_element(
     memory: &Memory,
     tenant: u32,

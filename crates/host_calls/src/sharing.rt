@@ -10,8 +10,8 @@ use page_table::Memory;
 
 /// Sets one option to a value that it may be set to. No tenant's part changes.
 ///
-/// Refusals in their order: 40 where the option can't have the value, 44 where `max_page_sharing` is to be
-/// set while there is a group. A refusal changes nothing.
+/// Refusals in their order: `BadOption` where the option can't have the value, `PagesShared` where
+/// `max_page_sharing` is to be set while there is a group. A refusal changes nothing.
 #[tactic(auto, unfolding(page_table::specs::State::part))]
 pub fn host_set(memory: &mut Memory, option: Opt, value: u32) -> Result<(), Fault>
     ensures may { OnOk result (MayBe option value × MaySet memory.old.sharing option) }
@@ -29,7 +29,7 @@ pub fn host_set(memory: &mut Memory, option: Opt, value: u32) -> Result<(), Faul
 /// Gives each page that shares a frame one of its own, in page order, and stops the scanner. No tenant's
 /// part changes.
 ///
-/// The one refusal is 31, just where the frames that this takes are more than `have()`; it gives both
+/// The one refusal is `NoFrames`, just where the frames that this takes are more than `have()`; it gives both
 /// numbers, and changes nothing.
 pub fn host_unmerge(memory: &mut Memory) -> Result<(), Fault>
     ensures unmerged { OnOk result (HasUnmerged memory.old memory.new) }

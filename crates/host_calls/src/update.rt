@@ -18,9 +18,10 @@ const ANY: u64 = 0;
 /// value that shares its frame is taken out before, and none is pinned, whether or not the tenant has an open
 /// run. What is recorded for that run stays.
 ///
-/// Refusals in their order: 42 where there is no such tenant, 34 where it has no such map, 35 where the map
-/// has no such element, 33 where the value has another size than the map's, 31 just where what is charged
-/// for an update of the map is above `have()`; it names both numbers. A refusal changes nothing.
+/// Refusals in their order: `BadTenant` where there is no such tenant, `NoMap` where it has no such map,
+/// `NoElement` where the map has no such element, `BadShape` where the value has another size than the map's,
+/// `NoFrames` just where what is charged for an update of the map is above `have()`; it names both numbers. A
+/// refusal changes nothing.
 #[tactic(auto, using(crate::proofs::Answers::helps, crate::proofs::Elements::update_refuses))]
 pub fn host_update(
     memory: &mut Memory,

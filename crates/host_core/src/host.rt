@@ -45,8 +45,8 @@ impl Model for Host {
 impl Host {
     /// A host of 2 to 4096 frames and 1 to 16 tenants, none of which has a map, a program or a run.
     ///
-    /// Refusals in their order: 33 where frames or tenants are out of limits, 40 where an option can't have
-    /// its value, 41 where memory ran out.
+    /// Refusals in their order: `BadShape` where frames or tenants are out of limits, `BadOption` where an
+    /// option can't have its value, `OutOfMemory` where memory ran out.
     pub fn new(alloc: Global, frames: u32, tenants: u32, options: Options) -> Result<Host, Fault>
         ensures new { IfOk result (λ host. StandsForSystem host (new_system frames tenants options)) }
         ensures limits { OnOk result (AreLimits frames tenants × AreOptions options) }

@@ -45,8 +45,8 @@ pub enum Event {
     },
     /// Takes a loaded program from a tenant. A program that is loaded later may have its number.
     ///
-    /// Refusals in their order: 42 where there is no such tenant, 36 while its run is open, 38 where it has no
-    /// such program.
+    /// Refusals in their order: `BadTenant` where there is no such tenant, `Busy` while its run is open,
+    /// `NoProgram` where it has no such program.
     Unload {
         tenant: u32,
         program: u32,
@@ -54,8 +54,9 @@ pub enum Event {
     /// Takes a map from a tenant. Its pages leave their groups, the zero frame and the waiting list, and
     /// frames on which no other page lies are free. A map that is made later may have its number.
     ///
-    /// Refusals in their order: 42 where there is no such tenant, 36 while its run is open, 34 where it has no
-    /// such map, 43 where an instruction of one of its programs, reached or not, names the map.
+    /// Refusals in their order: `BadTenant` where there is no such tenant, `Busy` while its run is open,
+    /// `NoMap` where it has no such map, `InUse` where an instruction of one of its programs, reached or not,
+    /// names the map.
     DropMap {
         tenant: u32,
         map: MapNo,

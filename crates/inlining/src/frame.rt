@@ -109,7 +109,9 @@ fn after(insn: &Insn, slot: usize, register: u8, lowest: &Lowest) -> Result<i32,
     }
     match insn.moved() {
         Some(by) => match before.checked_add(by) {
-            Some(address) if -512 <= address && address <= 512 => Ok(address),
+            Some(address) if -i32::from(STACK) <= address && address <= i32::from(STACK) => Ok(
+                address,
+            ),
             _ => Err(Stop::StackAddress.at(slot)),
         },
         None if insn.class() == Class::Arithmetic => Err(Stop::StackAddress.at(slot)),

@@ -15,7 +15,7 @@ use std::io::Write;
 /// no memory, nothing is written.
 pub fn write_differing<W: Write>(
     alloc: Global,
-    words: &mut W,
+    output: &mut W,
     checked: &CheckedText<'_>,
     refused: Refused,
 ) -> io::Result<()> {
@@ -23,7 +23,7 @@ pub fn write_differing<W: Write>(
         return Ok(());
     }
     match Known::of(alloc, checked) {
-        Some(known) => known.write_differing(alloc, words, checked, refused),
+        Some(known) => known.write_differing(alloc, output, checked, refused),
         None => Ok(()),
     }
 }
@@ -33,7 +33,7 @@ impl Known {
     pub fn write_differing<W: Write>(
         &self,
         alloc: Global,
-        words: &mut W,
+        output: &mut W,
         checked: &CheckedText<'_>,
         refused: Refused,
     ) -> io::Result<()> {
@@ -50,7 +50,7 @@ impl Known {
                 continue;
             }
             if let Some(differing) = Differing::of(Location::Register(register), edges.as_slice()) {
-                write!(words, "; {differing}")?;
+                write!(output, "; {differing}")?;
             }
         }
         Ok(())

@@ -79,7 +79,7 @@ impl Listed {
     }
 }
 
-/// The verifier's judgement.
+/// The verdict.
 fn verified_of(
     alloc: Global,
     text: &[u8],

@@ -2,7 +2,11 @@
 
 use bpf_decode::{Insn, Operation};
 use findings::Access;
+use host_types::layout::STACK_SIZE;
 use verifier_kinds::Kind;
+
+/// The bytes of the stack, below R10.
+const STACK: i64 = STACK_SIZE as i64;
 
 /// Slots of the stack, eight bytes each, the lowest address first.
 #[derive(Clone, Copy, Debug)]
@@ -28,9 +32,9 @@ impl Seen {
 
     /// Those of an access so far from the stack's end, if it lies in the stack.
     fn of(at: i32, access: Access) -> Option<Seen> {
-        let begin = 512 + i64::from(at) + i64::from(access.offset);
+        let begin = STACK + i64::from(at) + i64::from(access.offset);
         let end = begin + i64::from(access.bytes);
-        if begin < 0 || end <= begin || end > 512 {
+        if begin < 0 || end <= begin || end > STACK {
             return None;
         }
         Some(Seen {

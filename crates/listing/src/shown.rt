@@ -205,9 +205,9 @@ impl<'a> Listing<'a> {
     }
 
     /// Writes what paths to a refused slot say of a register that it reads, where it isn't the same.
-    pub fn write_differing<W: Write>(&self, words: &mut W, refused: Refused) -> io::Result<()> {
+    pub fn write_differing<W: Write>(&self, output: &mut W, refused: Refused) -> io::Result<()> {
         match &self.all_known.known {
-            Some(known) => known.write_differing(self.alloc, words, &self.checked, refused),
+            Some(known) => known.write_differing(self.alloc, output, &self.checked, refused),
             None => Ok(()),
         }
     }

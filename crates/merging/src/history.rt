@@ -48,7 +48,7 @@ struct Recorder {
     points: Thinned<Point>,
 }
 
-/// Replays a host file. The fault is that of the host itself, or 41.
+/// Replays a host file. The fault is that of the host itself, or `OutOfMemory`.
 pub fn history_of(alloc: Global, file: &HostFile) -> Result<History, Fault> {
     let host = Host::new(alloc, file.frames, file.tenants, file.options)?;
     match replayed(alloc, host, file) {

@@ -102,8 +102,8 @@ pub(crate) fn index_of_page(page: Page) -> usize
 impl Memory {
     /// A memory without maps, of 2 to 4096 frames, one of them the zero frame, and 1 to 16 tenants.
     ///
-    /// Refusals in their order: 33 where a limit is broken, 40 where an option can't have its
-    /// value, 41 where memory ran out.
+    /// Refusals in their order: `BadShape` where a limit is broken, `BadOption` where an option can't have
+    /// its value, `OutOfMemory` where memory ran out.
     pub fn new(alloc: Global, frames: u32, tenants: u32, options: Options) -> Result<Self, Fault>
         ensures ok { IfOk result (λ memory. memory ≡ new_memory frames tenants options) }
         ensures limits { OnOk result (AreLimits frames tenants × AreOptions options) }
@@ -130,7 +130,7 @@ impl Memory {
         requires { AreLimits frames tenants }
         ensures { IfOk result (λ memory. memory ≡ new_memory frames tenants options) }
     {
-        let page_indices = tenants * 2048;
+        let page_indices = tenants * (MAX_MAPS * MAX_PAGES) as u32;
         let table = Table::new(alloc, frames, page_indices)?;
         let shapes = vec![in alloc; None; tenants as usize * MAX_MAPS]?;
         let pass = Pass::new(alloc, frames, tenants * 8, options)?;

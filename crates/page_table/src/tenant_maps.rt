@@ -24,9 +24,9 @@ use host_types::{Fault, MapNo, Shape};
 impl Memory {
     /// Makes a map of zeros for a tenant, at its first free number.
     ///
-    /// Refusals in their order: 42 where there is no such tenant, 32 where it has eight maps, 33
-    /// where the shape is out of limits, 31 where the map's pages are more than `have`. A refusal
-    /// changes nothing. The call takes no memory.
+    /// Refusals in their order: `BadTenant` where there is no such tenant, `TooManyMaps` where it has eight
+    /// maps, `BadShape` where the shape is out of limits, `NoFrames` where the map's pages are more than
+    /// `have`. A refusal changes nothing. The call takes no memory.
     pub fn create_map(
         &mut self,
         tenant: u32,
@@ -92,8 +92,8 @@ impl Memory {
     /// cursor may be merged now, the pass ends. The call takes no memory, and looks at the map's
     /// pages, at those that wait, and for the next page that may be merged.
     ///
-    /// Refusals in their order: 42 where there is no such tenant, 34 where it has no such map. A
-    /// refusal changes nothing.
+    /// Refusals in their order: `BadTenant` where there is no such tenant, `NoMap` where it has no such map.
+    /// A refusal changes nothing.
     pub fn drop_map(&mut self, tenant: u32, map: MapNo) -> Result<(), Fault>
         ensures there { OnOk result (IsSome (map_at (part self.old tenant).maps map)) }
         ensures dropped { OnOk result (part self.new tenant ≡ part_dropped (part self.old tenant) map) }

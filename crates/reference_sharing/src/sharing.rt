@@ -345,8 +345,8 @@ impl PlainSharing {
 
     /// Sets one option to a value that it may be set to.
     ///
-    /// Refusals in their order: 40 where the option can't have the value, 44 where `max_page_sharing` is
-    /// to be set while there is a group. A refusal changes nothing.
+    /// Refusals in their order: `BadOption` where the option can't have the value, `PagesShared` where
+    /// `max_page_sharing` is to be set while there is a group. A refusal changes nothing.
     pub fn set(&mut self, option: Opt, value: u32) -> Result<(), Fault>
         ensures may { OnOk result (MayBe option value × MaySet self.old option) }
         ensures set { OnOk result (self.new ≡ record self.old { options = with_option self.old.options option value }) }

@@ -8,8 +8,9 @@ use page_table::Memory;
 /// Sets one option to a value that it may be set to. 2 is no value of `run` here: only an unmerging of
 /// everything leaves it.
 ///
-/// Refusals in their order: 40 where the option can't have the value, 44 where `max_page_sharing` is
-/// to be set, also to the value that it has, while there is a group. A refusal changes nothing.
+/// Refusals in their order: `BadOption` where the option can't have the value, `PagesShared` where
+/// `max_page_sharing` is to be set, also to the value that it has, while there is a group. A refusal changes
+/// nothing.
 pub fn set(memory: &mut Memory, option: Opt, value: u32) -> Result<(), Fault>
     ensures may { OnOk result (MayBe option value × MaySet memory.old.sharing option) }
     ensures set { OnOk result (memory.new ≡ record memory.old {

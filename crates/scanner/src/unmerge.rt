@@ -9,7 +9,7 @@ use page_table::Memory;
 /// Gives each page that shares a frame one of its own, in the order of the pages, and stops the
 /// scanner: `run` is 2 then, until it is set again. The kernel's manual calls it unmerging.
 ///
-/// 31 where that takes more frames than `have()`; it names both numbers, and changes nothing.
+/// `NoFrames` where that takes more frames than `have()`; it names both numbers, and changes nothing.
 pub fn unmerge_all(memory: &mut Memory) -> Result<(), Fault>
     ensures unmerged { OnOk result (HasUnmerged memory.old memory.new) }
     ensures err { IfErr result (RefusesUnmerge memory.old.sharing (have_of memory.old)) }

@@ -25,13 +25,12 @@ use std::sync::Wait;
 use std::thread::Threads;
 use tenant_workers::{Gate, Plan, ScanPlan, Shared, serve};
 
-/// Serves the host file that the reader gives. Its maps, programs, values and options are made, loaded,
-/// written and set in the file's order, and the first refusal among them is written and ends it: of an option only 40,
-/// since no page shares a frame yet. Then a
-/// thread a tenant makes the tenant's runs in the file's order, while one for the scanner makes all visits.
-/// When they have ended each run or its refusal is one line, by tenant and in order, and then each value
-/// that is looked up. What a refusal means goes to `words`, and how far the threads are to the gate (`Open`:
-/// nobody waits at it). Answers the status: 0, or 1 if a refusal was written. A bad file applies nothing.
+/// Serves the host file that the reader gives. Its maps, programs, values and options are made, loaded, written and
+/// set in the file's order, and the first refusal among them is written and ends it: of an option only `BadOption`,
+/// since no page shares a frame yet. Then a thread a tenant makes the tenant's runs in the file's order, while one for
+/// the scanner makes all visits. When they have ended each run or its refusal is one line, by tenant and in order, and
+/// then each value that is looked up. What a refusal means goes to `diagnostics`, and how far the threads are to the gate
+/// (`Open`: nobody waits at it). Answers the status: 0, or 1 if a refusal was written. A bad file applies nothing.
 #[tactic(auto, using(crate::proofs::Served::status_few, crate::proofs::Served::none_served, crate::proofs::Served::some_unserved))]
 pub fn serve_file<T: Threads + Wait + Sync, R: Read, W: Write, E: Write, G: Gate + Sync>(
     rt: &T,

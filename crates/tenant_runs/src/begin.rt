@@ -15,9 +15,9 @@ use verifier::Verified;
 /// Opens a run of a tenant's program on a context: it stands at its beginning, it is the tenant's open run, and
 /// just what it may need is reserved for it.
 ///
-/// Refusals in their order: 39 where the context hasn't the program's size, 31 just where it may need more than
-/// `have()`, with both numbers; and 41 where memory ran out and neither holds. A refusal changes nothing. The
-/// tenant has no other open run.
+/// Refusals in their order: `BadContext` where the context hasn't the program's size, `NoFrames` just where it
+/// may need more than `have()`, with both numbers; and `OutOfMemory` where memory ran out and neither holds. A
+/// refusal changes nothing. The tenant has no other open run.
 pub fn open_run(
     alloc: Global,
     memory: &mut Memory,

@@ -78,10 +78,11 @@ fn has_shape(memory: &Memory, tenant: u32, map: MapNo, shape: Shape) -> bool
 /// standard's machine does on these maps alone, whichever of their pages share frames, and within as many
 /// steps as the program has instructions.
 ///
-/// Refusals in their order: 42 where there is no such tenant, 38 where a map that the program names and has a
-/// shape for isn't the tenant's with that shape, 39 where the context hasn't the program's size, 31 just where
-/// it may need more than `have()`, with both numbers; and 41 where memory ran out and none of
-/// these holds. A refusal changes nothing. The tenant has no other open run.
+/// Refusals in their order: `BadTenant` where there is no such tenant, `NoProgram` where a map that the
+/// program names and has a shape for isn't the tenant's with that shape, `BadContext` where the context hasn't
+/// the program's size, `NoFrames` just where it may need more than `have()`, with both numbers; and
+/// `OutOfMemory` where memory ran out and none of these holds. A refusal changes nothing. The tenant has no
+/// other open run.
 pub fn run(
     alloc: Global,
     memory: &mut Memory,

@@ -18,8 +18,8 @@ use turn::HostSeat;
 impl Shared {
     /// Sets one option to a value that it may be set to. Nothing else changes.
     ///
-    /// Refusals in their order: 40 where the option can't have the value, 44 where `max_page_sharing` is
-    /// to be set while there is a group. A refusal changes nothing.
+    /// Refusals in their order: `BadOption` where the option can't have the value, `PagesShared` where
+    /// `max_page_sharing` is to be set while there is a group. A refusal changes nothing.
     #[tactic(auto, using(crate::proofs::Options::set_again))]
     pub fn set(
         &self,
@@ -46,8 +46,8 @@ impl Shared {
 
     /// Gives each page that shares a frame one of its own, and stops the scanner. No tenant's part changes.
     ///
-    /// The one refusal is 31, just where the frames that this takes are more than those that may be had;
-    /// it names both numbers, and changes nothing.
+    /// The one refusal is `NoFrames`, just where the frames that this takes are more than those that may be
+    /// had; it names both numbers, and changes nothing.
     #[tactic(auto, unfolding(host_types::specs::Unmerging::unmerged))]
     pub fn unmerge(&self, rt: &impl Wait, seat: &mut HostSeat) -> Result<(), Fault>
         requires idle { IsIdle self.now seat.old }

@@ -21,9 +21,10 @@ use turn::Seat;
 impl Shared {
     /// Makes a map of zeros for the seat's tenant, at its first free number.
     ///
-    /// Refusals in their order: 32 where the tenant has eight maps, 33 where the shape is out of limits, 31
-    /// just where the map's pages are more than the frames that may be had; it names both numbers. 42 never comes,
-    /// as a seat's tenant is there. A refusal changes nothing. The call takes no memory.
+    /// Refusals in their order: `TooManyMaps` where the tenant has eight maps, `BadShape` where the shape is out
+    /// of limits, `NoFrames` just where the map's pages are more than the frames that may be had; it names both
+    /// numbers. `BadTenant` never comes, as a seat's tenant is there. A refusal changes nothing. The call takes no
+    /// memory.
     #[tactic(auto, using(crate::proofs::Resting::created_rests))]
     pub fn create_map(
         &self,
@@ -58,11 +59,11 @@ impl Shared {
 
     /// Takes a map of the seat's tenant away, whatever programs name it; its number is free then. Its pages leave
     /// their groups, the zero frame and the waiting list, and a frame on which no other page lies is free. The call
-    /// takes no memory. A run of a program that names the map is answered 38 from then on, until the tenant has a map
-    /// of this number and shape again.
+    /// takes no memory. A run of a program that names the map is answered `NoProgram` from then on, until the tenant
+    /// has a map of this number and shape again.
     ///
-    /// The one refusal is 34, just where the tenant has no such map, and it changes nothing; 42 never, as a seat's
-    /// tenant is there.
+    /// The one refusal is `NoMap`, just where the tenant has no such map, and it changes nothing; `BadTenant`
+    /// never, as a seat's tenant is there.
     #[tactic(auto, using(crate::proofs::Drops::refused_there, crate::proofs::Resting::dropped_rests))]
     pub fn drop_map(&self, rt: &impl Wait, seat: &mut Seat, map: MapNo) -> Result<(), Fault>
         requires idle { IsIdle self.now seat.old }
@@ -88,10 +89,10 @@ impl Shared {
     /// Writes a value to an element of a map of the seat's tenant. The pages that it writes leave their groups and
     /// the zero frame, and none is pinned; nothing else changes.
     ///
-    /// Refusals in their order: 34 where the tenant has no such map, 35 where the map has no such element, 33
-    /// where the value has another size than the map's, 31 just where what is charged for an update of the
-    /// map is above the frames that may be had; it names both numbers. 42 never comes, as a seat's tenant is
-    /// there. A refusal changes nothing.
+    /// Refusals in their order: `NoMap` where the tenant has no such map, `NoElement` where the map has no
+    /// such element, `BadShape` where the value has another size than the map's, `NoFrames` just where what
+    /// is charged for an update of the map is above the frames that may be had; it names both numbers.
+    /// `BadTenant` never comes, as a seat's tenant is there. A refusal changes nothing.
     #[tactic(auto, using(crate::proofs::Resting::updated_rests), unfolding(host_types::specs::Helpers::maps_updated))]
     pub fn update(
         &self,
@@ -126,8 +127,8 @@ impl Shared {
 
     /// The value of an element of a map of the seat's tenant. The seat's part stays.
     ///
-    /// Refusals in their order: 34 where the tenant has no such map, 35 where the map has no such element, 41
-    /// where memory ran out; 42 never, as a seat's tenant is there.
+    /// Refusals in their order: `NoMap` where the tenant has no such map, `NoElement` where the map has no
+    /// such element, `OutOfMemory` where memory ran out; `BadTenant` never, as a seat's tenant is there.
     pub fn read(
         &self,
         rt: &impl Wait,

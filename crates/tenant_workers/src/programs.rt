@@ -18,9 +18,9 @@ impl Shared {
     /// Verifies a text as a program of the seat's tenant, with the maps that it has and a context of so many
     /// bytes. The seat's part stays, and no turn is held while the text is verified.
     ///
-    /// Refusals in their order: 39 where the context's size is above 256 or no multiple of 8, the text's
-    /// first fault, 1 to 5, or else the first rule that it breaks, 11 to 25; 41 where memory ran out, and only
-    /// of a text without a fault.
+    /// Refusals in their order: `BadContext` where the context's size is above 256 or no multiple of 8, the
+    /// text's first fault (`BadLength` to `CutWide`), or else the first rule that it breaks (`BackJump` to
+    /// `PointerLeaks`); `OutOfMemory` where memory ran out, and only of a text without a fault.
     pub fn load_program(
         &self,
         rt: &impl Wait,

@@ -16,8 +16,8 @@ use verifier::Verified;
 
 impl Shared {
     /// Makes one tenant's runs in order, and writes what each was answered over the plan's replies, of which
-    /// there are as many as runs. A run of a program that isn't there is answered 38; each other one is
-    /// answered as by `run_program`, from what the one before left.
+    /// there are as many as runs. A run of a program that isn't there is answered `NoProgram`; each other one
+    /// is answered as by `run_program`, from what the one before left.
     pub fn run_all(&self, rt: &impl Wait, alloc: Global, plan: &mut TenantPlan, gate: &impl Gate)
         requires own { plan.old.shared.now ≡ self.now }
         requires count { length plan.old.replies.items ≡ length plan.old.runs.items }

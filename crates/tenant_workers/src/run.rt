@@ -31,9 +31,9 @@ impl Shared {
     /// returns what the standard's machine returns on the maps of the seat, whatever others do between the
     /// turns, within as many steps as the program has instructions.
     ///
-    /// Refusals in their order: 38 where a map that the program names and has a shape for isn't the tenant's with
-    /// that shape, 31 just where the run may need more than the frames that may be had; it names both numbers. A
-    /// refusal changes nothing. The tenant has no other open run, and none afterwards.
+    /// Refusals in their order: `NoProgram` where a map that the program names and has a shape for isn't the
+    /// tenant's with that shape, `NoFrames` just where the run may need more than the frames that may be had; it
+    /// names both numbers. A refusal changes nothing. The tenant has no other open run, and none afterwards.
     pub fn run(
         &self,
         rt: &impl Wait,
@@ -64,8 +64,9 @@ impl Shared {
 
     /// Makes a whole run of a program on a context, from its beginning.
     ///
-    /// Refusals in their order: 39 where the context hasn't the program's size, those of `run`, and 41 where
-    /// memory ran out and none of these held in the turn in which it was asked. A refusal changes nothing.
+    /// Refusals in their order: `BadContext` where the context hasn't the program's size, those of `run`, and
+    /// `OutOfMemory` where memory ran out and none of these held in the turn in which it was asked. A refusal
+    /// changes nothing.
     #[tactic(auto, using(crate::proofs::Turns::gone_nowhere, crate::proofs::Turns::gone_once))]
     pub fn run_program(
         &self,

@@ -22,8 +22,8 @@ use std::thread::Threads;
 /// are all `Err(OutOfMemory)`, its seat stays, and the others go on. The scanner made as many visits as are
 /// planned, or none where its thread can't be started.
 ///
-/// The one refusal is 41, where the room for the replies or for the threads can't be had. Then no thread was
-/// started, and the plan is as it was.
+/// The one refusal is `OutOfMemory`, where the room for the replies or for the threads can't be had. Then no
+/// thread was started, and the plan is as it was.
 pub fn serve<R: Threads + Wait + Sync, G: Gate + Sync>(
     rt: &R,
     alloc: Global,

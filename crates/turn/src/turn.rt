@@ -52,8 +52,8 @@ impl Turn {
     /// A turn over a memory, with a seat for each of its tenants, one for the scanner and one for
     /// the host.
     ///
-    /// Refusals in their order: 33 where there aren't as many tenants as the memory has, 41 where
-    /// memory ran out. A refusal drops the memory.
+    /// Refusals in their order: `BadShape` where there aren't as many tenants as the memory has,
+    /// `OutOfMemory` where memory ran out. A refusal drops the memory.
     pub fn new(
         alloc: Global,
         memory: Memory,

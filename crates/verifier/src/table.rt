@@ -283,8 +283,8 @@ impl Pass {
     }
 }
 
-/// The kinds of the registers at each slot of a text in which no slot breaks a rule, or else the refusal
-/// of the text. Want of memory is 41 at slot 0.
+/// The kinds of the registers at each slot of a text in which no slot breaks a rule, or else the refusal of
+/// the text. Want of memory is `OutOfMemory` at slot 0.
 pub(crate) fn kept_kinds(
     alloc: Global,
     candidate: &Candidate,

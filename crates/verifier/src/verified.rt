@@ -175,9 +175,9 @@ impl Verified {
     }
 }
 
-/// Verifies a program that may use maps of these shapes, by number, and whose context has `ctx_size`
-/// bytes. A number without a shape is that of no map. The program is accepted if no slot that is reached breaks a rule. A refusal is the first slot that
-/// breaks one, with the smallest number there: 11 to 25; or 41 at slot 0 for want of memory.
+/// Verifies a program that may use maps of these shapes, by number, and whose context has `ctx_size` bytes. A number without a shape is that of no
+/// map. The program is accepted if no slot that is reached breaks a rule. A refusal is the first slot that breaks one, with the smallest number
+/// there (`BackJump` to `PointerLeaks`); or `OutOfMemory` at slot 0 for want of memory.
 pub fn verify(
     alloc: Global,
     program: Program,
