@@ -11,15 +11,15 @@
  *     if (bpf_host_run(&host, 0, program, context, 0, &run, &why)) ..
  *     bpf_host_free(&host);
  *
- * WHAT A CALL RETURNS. 0, or the number of a refusal; bpf_host_code_name has its name.
- *     1 to 25     a program breaks this rule of the verifier, at the slot `refused->slot`
- *     31          more frames are needed than may be had: `refused->need` and `refused->have`
- *     32 to 45    as docs/HOST.md lists them; 41: memory ran out
- *     100         the handle is closed
- *     101         the handle is open already (bpf_host_new)
- *     102         the buffer has another length than the value (bpf_host_lookup) or is too short (bpf_host_lower, bpf_host_explain), or the contexts
- *                 can't have one size (bpf_host_run_many)
- * 41 comes only where nothing else is refused, but that bpf_host_load returns it before 11 to 25 where there is no memory to verify the text.
+ * WHAT A CALL RETURNS. BPF_HOST_DONE, which is 0, or a refusal; bpf_host_code_name has its name. Each call lists its refusals without BPF_HOST_, in
+ * the order in which they are tested; docs/HOST.md says when each comes.
+ *     a rule           1 to 25: the program breaks this rule of the verifier, at the slot `refused->slot`
+ *     NO_FRAMES        more frames are needed than may be had: `refused->need` and `refused->have`
+ *     OUT_OF_MEMORY    nothing else is refused; but bpf_host_load returns it before 11 to 25 where there is no memory to verify the text
+ *     CLOSED           the handle is closed
+ *     OPEN_ALREADY     the handle is open already (bpf_host_new)
+ *     WRONG_LENGTH     the buffer has another length than the value (bpf_host_lookup) or is too short (bpf_host_lower, bpf_host_explain), or the
+ *                      contexts can't have one size (bpf_host_run_many)
  * bpf_host_lookup and bpf_host_update take no memory, and bpf_host_begin and _run only where the context is longer than those of the tenant's
  * runs before.
  * A call that doesn't return 0 changed nothing: neither the host nor what the caller's pointers lead to, but for the members of
@@ -75,6 +75,49 @@ enum {
     BPF_HOST_MAX_PAGE_SHARING = 3
 };
 
+/* What a call returns: 0, a rule of the verifier that a program breaks (1 to 25, docs/VERIFIER.md), or another refusal (docs/HOST.md). */
+enum {
+    BPF_HOST_DONE = 0,
+    BPF_HOST_BAD_LENGTH = 1,
+    BPF_HOST_UNKNOWN_OPCODE = 2,
+    BPF_HOST_BAD_FIELD = 3,
+    BPF_HOST_BAD_REGISTER = 4,
+    BPF_HOST_CUT_WIDE = 5,
+    BPF_HOST_BACK_JUMP = 11,
+    BPF_HOST_JUMP_OUT = 12,
+    BPF_HOST_FALLS_OFF = 13,
+    BPF_HOST_UNSET_REGISTER = 14,
+    BPF_HOST_WRONG_KIND = 15,
+    BPF_HOST_OUTSIDE_CONTEXT = 16,
+    BPF_HOST_OUTSIDE_STACK = 17,
+    BPF_HOST_UNSET_STACK = 18,
+    BPF_HOST_OUTSIDE_MAP = 19,
+    BPF_HOST_MISALIGNED = 20,
+    BPF_HOST_NULL_NOT_CHECKED = 21,
+    BPF_HOST_FRAME_WRITTEN = 22,
+    BPF_HOST_UNKNOWN_HELPER = 23,
+    BPF_HOST_UNKNOWN_MAP = 24,
+    BPF_HOST_POINTER_LEAKS = 25,
+    BPF_HOST_NO_FRAMES = 31,
+    BPF_HOST_TOO_MANY_MAPS = 32,
+    BPF_HOST_BAD_SHAPE = 33,
+    BPF_HOST_NO_MAP = 34,
+    BPF_HOST_NO_ELEMENT = 35,
+    BPF_HOST_BUSY = 36,
+    BPF_HOST_NO_RUN = 37,
+    BPF_HOST_NO_PROGRAM = 38,
+    BPF_HOST_BAD_CONTEXT = 39,
+    BPF_HOST_BAD_OPTION = 40,
+    BPF_HOST_OUT_OF_MEMORY = 41,
+    BPF_HOST_BAD_TENANT = 42,
+    BPF_HOST_IN_USE = 43,
+    BPF_HOST_PAGES_SHARED = 44,
+    BPF_HOST_TOO_MANY_PROGRAMS = 45,
+    BPF_HOST_CLOSED = 100,
+    BPF_HOST_OPEN_ALREADY = 101,
+    BPF_HOST_WRONG_LENGTH = 102
+};
+
 /* What a refusal says beside its number. */
 struct bpf_host_refused {
     uint32_t slot;
@@ -110,43 +153,46 @@ struct bpf_host_counters {
 /* The version of the library. */
 uint32_t bpf_host_version(void);
 
-/* Opens a closed handle with a new host of 2 to 4096 frames and 1 to 16 tenants. 101, 33, 40, 41. */
+/* Opens a closed handle with a new host of 2 to 4096 frames and 1 to 16 tenants. Refused: OPEN_ALREADY, BAD_SHAPE, BAD_OPTION, OUT_OF_MEMORY. */
 uint32_t bpf_host_new(uint32_t frames, uint32_t tenants, const struct bpf_host_options *options, struct bpf_host *host);
 
 /* Closes a handle and gives back all that its host held. A closed handle stays closed. */
 void bpf_host_free(struct bpf_host *host);
 
-/* Makes a map of `entries` values of `value_size` bytes, all zero, and writes its number to `*map`: 0 to 7. 100, 42, 36, 32, 33, 31. */
+/* Makes a map of `entries` values of `value_size` bytes, all zero, and writes its number to `*map`: 0 to 7. Refused: CLOSED, BAD_TENANT, BUSY,
+ * TOO_MANY_MAPS, BAD_SHAPE, NO_FRAMES. */
 uint32_t bpf_host_create_map(struct bpf_host *host, uint32_t tenant, uint32_t value_size, uint32_t entries, bool mergeable, uint32_t *map,
                              struct bpf_host_refused *refused);
 
-/* Takes away a map that no loaded program names. 100, 42, 36, 34, 43. */
+/* Takes away a map that no loaded program names. Refused: CLOSED, BAD_TENANT, BUSY, NO_MAP, IN_USE. */
 uint32_t bpf_host_drop_map(struct bpf_host *host, uint32_t tenant, uint32_t map);
 
-/* Writes the shape of a map. A tenant that isn't there has no map. 100, 34. */
+/* Writes the shape of a map. A tenant that isn't there has no map. Refused: CLOSED, NO_MAP. */
 uint32_t bpf_host_shape(struct bpf_host *host, uint32_t tenant, uint32_t map, struct bpf_host_shape *shape);
 
-/* Verifies a program, slots of 8 bytes, for the tenant's maps and contexts of `context_size` bytes, and writes its number to `*program`:
- * 0 to 7. The text is copied. 100, 42, 36, 45, 39, 1 to 25, 41. */
+/* Verifies a program, slots of 8 bytes, for the tenant's maps and contexts of `context_size` bytes, and writes its number to `*program`: 0 to 7.
+ * The text is copied. Refused: CLOSED, BAD_TENANT, BUSY, TOO_MANY_PROGRAMS, BAD_CONTEXT, a rule, OUT_OF_MEMORY. */
 uint32_t bpf_host_load(struct bpf_host *host, uint32_t tenant, const uint8_t *text, size_t text_len, uint32_t context_size, uint32_t *program,
                        struct bpf_host_refused *refused);
 
-/* Takes a program away. 100, 42, 36, 38. */
+/* Takes a program away. Refused: CLOSED, BAD_TENANT, BUSY, NO_PROGRAM. */
 uint32_t bpf_host_unload(struct bpf_host *host, uint32_t tenant, uint32_t program);
 
-/* Runs a program on a context, from its first instruction to its end: a begin and all its steps. 100, 42, 36, 38, 39, 31, 41. */
+/* Runs a program on a context, from its first instruction to its end: a begin and all its steps. Refused: CLOSED, BAD_TENANT, BUSY, NO_PROGRAM,
+ * BAD_CONTEXT, NO_FRAMES, OUT_OF_MEMORY. */
 uint32_t bpf_host_run(struct bpf_host *host, uint32_t tenant, uint32_t program, const uint8_t *context, size_t context_len,
                       struct bpf_host_run *run, struct bpf_host_refused *refused);
 
-/* Runs a program once for each of `rets_len` contexts of one size, which stand one after the other, and writes what each run returns. It stops
- * at the first refusal, and leaves `rets` from there on as it was. 102 where the contexts can't have one size, and what bpf_host_run refuses. */
+/* Runs a program once for each of `rets_len` contexts of one size, which stand one after the other, and writes what each run returns. It stops at
+ * the first refusal, and leaves `rets` from there on as it was. WRONG_LENGTH where the contexts can't have one size, and what bpf_host_run
+ * refuses. */
 static inline uint32_t bpf_host_run_many(struct bpf_host *host, uint32_t tenant, uint32_t program, const uint8_t *contexts, size_t contexts_len,
                                          uint64_t *rets, size_t rets_len, struct bpf_host_refused *refused)
 {
     size_t size = rets_len ? contexts_len / rets_len : 0;
     struct bpf_host_run run = {0, 0};
     if (size * rets_len != contexts_len)
-        return 102;
+        return BPF_HOST_WRONG_LENGTH;
     for (size_t number = 0; number < rets_len; number++) {
         uint32_t code = bpf_host_run(host, tenant, program, contexts + number * size, size, &run, refused);
         if (code != 0)
@@ -156,50 +202,52 @@ static inline uint32_t bpf_host_run_many(struct bpf_host *host, uint32_t tenant,
     return 0;
 }
 
-/* Opens a run of a program on a context, and reserves the frames that it may need. 100, 42, 36, 38, 39, 31, 41. */
+/* Opens a run of a program on a context, and reserves the frames that it may need. Refused: CLOSED, BAD_TENANT, BUSY, NO_PROGRAM, BAD_CONTEXT,
+ * NO_FRAMES, OUT_OF_MEMORY. */
 uint32_t bpf_host_begin(struct bpf_host *host, uint32_t tenant, uint32_t program, const uint8_t *context, size_t context_len,
                         struct bpf_host_refused *refused);
 
-/* Makes steps of the tenant's open run, at most `steps`. `*ended` says whether the run ended with them, and then `*run` is written. 100, 42,
- * 37. */
+/* Makes steps of the tenant's open run, at most `steps`. `*ended` says whether the run ended with them, and then `*run` is written. Refused:
+ * CLOSED, BAD_TENANT, NO_RUN. */
 uint32_t bpf_host_step(struct bpf_host *host, uint32_t tenant, uint64_t steps, bool *ended, struct bpf_host_run *run);
 
-/* Copies a value of a map to just as many bytes. 100, 42, 34, 35, 102. */
+/* Copies a value of a map to just as many bytes. Refused: CLOSED, BAD_TENANT, NO_MAP, NO_ELEMENT, WRONG_LENGTH. */
 uint32_t bpf_host_lookup(struct bpf_host *host, uint32_t tenant, uint32_t map, uint32_t key, uint8_t *value, size_t value_len);
 
-/* Writes a value of a map. 100, 42, 36, 34, 35, 33, 31. */
+/* Writes a value of a map. Refused: CLOSED, BAD_TENANT, BUSY, NO_MAP, NO_ELEMENT, BAD_SHAPE, NO_FRAMES. */
 uint32_t bpf_host_update(struct bpf_host *host, uint32_t tenant, uint32_t map, uint32_t key, const uint8_t *value, size_t value_len,
                          struct bpf_host_refused *refused);
 
-/* Lets the scanner make `visits` visits of a page each, and writes the counters after them. 100. */
+/* Lets the scanner make `visits` visits of a page each, and writes the counters after them. Refused: CLOSED. */
 uint32_t bpf_host_visit(struct bpf_host *host, uint32_t visits, struct bpf_host_counters *after);
 
-/* Sets an option. 100, 40, 44. */
+/* Sets an option. Refused: CLOSED, BAD_OPTION, PAGES_SHARED. */
 uint32_t bpf_host_set(struct bpf_host *host, uint32_t option, uint32_t value);
 
-/* Gives each page that shares a frame one of its own, and stops the scanner. 100, 31. */
+/* Gives each page that shares a frame one of its own, and stops the scanner. Refused: CLOSED, NO_FRAMES. */
 uint32_t bpf_host_unmerge(struct bpf_host *host, struct bpf_host_refused *refused);
 
-/* Writes the counters. 100. */
+/* Writes the counters. Refused: CLOSED. */
 uint32_t bpf_host_counters(struct bpf_host *host, struct bpf_host_counters *counters);
 
 /* CALLS ON A TEXT ALONE. They need no handle, and may be made on several threads at a time. `shapes` has the shapes of the maps that the
  * text may use, by number; one of two zeros is that of no map. */
 
-/* Verifies a text for maps of these shapes and contexts of `context_size` bytes: what bpf_host_load answers a tenant with such maps. 32, 33,
- * 39, 1 to 25, 41. */
+/* Verifies a text for maps of these shapes and contexts of `context_size` bytes: what bpf_host_load answers a tenant with such maps. Refused:
+ * TOO_MANY_MAPS, BAD_SHAPE, BAD_CONTEXT, a rule, OUT_OF_MEMORY. */
 uint32_t bpf_host_verify(const uint8_t *text, size_t text_len, const struct bpf_host_shape *shapes, size_t shapes_len, uint32_t context_size,
                          struct bpf_host_refused *refused);
 
 /* Makes a text with the same runs that the verifier accepts, with blocks in another order and loops in several copies (docs/LOWER.md), and writes
- * how many bytes it has to `*written`: at most 32768. A text that is accepted stays as it is. 102 where `lowered_len` is less: then `lowered` stays
- * as it was. 32, 33, 39, 41, and 1 to 25 as bpf_host_verify refuses the text where the lowering doesn't help. */
+ * how many bytes it has to `*written`: at most 32768. A text that is accepted stays as it is. WRONG_LENGTH where `lowered_len` is less: then
+ * `lowered` stays as it was. Refused: TOO_MANY_MAPS, BAD_SHAPE, BAD_CONTEXT, OUT_OF_MEMORY, and a rule as bpf_host_verify refuses the text where
+ * the lowering doesn't help. */
 uint32_t bpf_host_lower(const uint8_t *text, size_t text_len, const struct bpf_host_shape *shapes, size_t shapes_len, uint32_t context_size,
                         uint8_t *lowered, size_t lowered_len, size_t *written, struct bpf_host_refused *refused);
 
 /* Writes what the program `explain` prints of a text, accepted or refused, without colours (docs/EXPLAIN.md): UTF-8 with no zero at its end, and
- * how many bytes that is to `*written`. 102 where `explained_len` is less: then `explained` stays as it was. Without memory 41, or the words say
- * so or are fewer. */
+ * how many bytes that is to `*written`. WRONG_LENGTH where `explained_len` is less: then `explained` stays as it was. Without memory OUT_OF_MEMORY,
+ * or the words say so or are fewer. */
 uint32_t bpf_host_explain(const uint8_t *text, size_t text_len, const struct bpf_host_shape *shapes, size_t shapes_len, uint32_t context_size,
                           char *explained, size_t explained_len, size_t *written);
 
@@ -207,45 +255,45 @@ uint32_t bpf_host_explain(const uint8_t *text, size_t text_len, const struct bpf
 static inline const char *bpf_host_code_name(uint32_t code)
 {
     switch (code) {
-    case 0: return "Done";
-    case 1: return "BadLength";
-    case 2: return "UnknownOpcode";
-    case 3: return "BadField";
-    case 4: return "BadRegister";
-    case 5: return "CutWide";
-    case 11: return "BackJump";
-    case 12: return "JumpOut";
-    case 13: return "FallsOff";
-    case 14: return "UnsetRegister";
-    case 15: return "WrongKind";
-    case 16: return "OutsideContext";
-    case 17: return "OutsideStack";
-    case 18: return "UnsetStack";
-    case 19: return "OutsideMap";
-    case 20: return "Misaligned";
-    case 21: return "NullNotChecked";
-    case 22: return "FrameWritten";
-    case 23: return "UnknownHelper";
-    case 24: return "UnknownMap";
-    case 25: return "PointerLeaks";
-    case 31: return "NoFrames";
-    case 32: return "TooManyMaps";
-    case 33: return "BadShape";
-    case 34: return "NoMap";
-    case 35: return "NoElement";
-    case 36: return "Busy";
-    case 37: return "NoRun";
-    case 38: return "NoProgram";
-    case 39: return "BadContext";
-    case 40: return "BadOption";
-    case 41: return "OutOfMemory";
-    case 42: return "BadTenant";
-    case 43: return "InUse";
-    case 44: return "PagesShared";
-    case 45: return "TooManyPrograms";
-    case 100: return "Closed";
-    case 101: return "OpenAlready";
-    case 102: return "WrongLength";
+    case BPF_HOST_DONE: return "Done";
+    case BPF_HOST_BAD_LENGTH: return "BadLength";
+    case BPF_HOST_UNKNOWN_OPCODE: return "UnknownOpcode";
+    case BPF_HOST_BAD_FIELD: return "BadField";
+    case BPF_HOST_BAD_REGISTER: return "BadRegister";
+    case BPF_HOST_CUT_WIDE: return "CutWide";
+    case BPF_HOST_BACK_JUMP: return "BackJump";
+    case BPF_HOST_JUMP_OUT: return "JumpOut";
+    case BPF_HOST_FALLS_OFF: return "FallsOff";
+    case BPF_HOST_UNSET_REGISTER: return "UnsetRegister";
+    case BPF_HOST_WRONG_KIND: return "WrongKind";
+    case BPF_HOST_OUTSIDE_CONTEXT: return "OutsideContext";
+    case BPF_HOST_OUTSIDE_STACK: return "OutsideStack";
+    case BPF_HOST_UNSET_STACK: return "UnsetStack";
+    case BPF_HOST_OUTSIDE_MAP: return "OutsideMap";
+    case BPF_HOST_MISALIGNED: return "Misaligned";
+    case BPF_HOST_NULL_NOT_CHECKED: return "NullNotChecked";
+    case BPF_HOST_FRAME_WRITTEN: return "FrameWritten";
+    case BPF_HOST_UNKNOWN_HELPER: return "UnknownHelper";
+    case BPF_HOST_UNKNOWN_MAP: return "UnknownMap";
+    case BPF_HOST_POINTER_LEAKS: return "PointerLeaks";
+    case BPF_HOST_NO_FRAMES: return "NoFrames";
+    case BPF_HOST_TOO_MANY_MAPS: return "TooManyMaps";
+    case BPF_HOST_BAD_SHAPE: return "BadShape";
+    case BPF_HOST_NO_MAP: return "NoMap";
+    case BPF_HOST_NO_ELEMENT: return "NoElement";
+    case BPF_HOST_BUSY: return "Busy";
+    case BPF_HOST_NO_RUN: return "NoRun";
+    case BPF_HOST_NO_PROGRAM: return "NoProgram";
+    case BPF_HOST_BAD_CONTEXT: return "BadContext";
+    case BPF_HOST_BAD_OPTION: return "BadOption";
+    case BPF_HOST_OUT_OF_MEMORY: return "OutOfMemory";
+    case BPF_HOST_BAD_TENANT: return "BadTenant";
+    case BPF_HOST_IN_USE: return "InUse";
+    case BPF_HOST_PAGES_SHARED: return "PagesShared";
+    case BPF_HOST_TOO_MANY_PROGRAMS: return "TooManyPrograms";
+    case BPF_HOST_CLOSED: return "Closed";
+    case BPF_HOST_OPEN_ALREADY: return "OpenAlready";
+    case BPF_HOST_WRONG_LENGTH: return "WrongLength";
     default: return "Unknown";
     }
 }
