@@ -1,7 +1,7 @@
 //! Texts that a program becomes by a few changes that are drawn.
 
 use crate::fixture::Fixture;
-use crate::runs::{Outcome, found_of};
+use crate::runs::{Found, found_of};
 use std::alloc::{AllocError, Global};
 use std::io;
 use tests_inputs::{BITS, Draws, flip};
@@ -164,14 +164,14 @@ impl Drawn {
         for _ in 0..count {
             let drawn = self.text(alloc, text)?;
             match found_of(alloc, fixture, drawn.as_slice()) {
-                Outcome::RefusedByDecoder => {
+                Found::RefusedByDecoder => {
                     self.refused_by_decoder = self.refused_by_decoder.saturating_add(1);
                 }
-                Outcome::RefusedByVerifier => {
+                Found::RefusedByVerifier => {
                     self.refused_by_verifier = self.refused_by_verifier.saturating_add(1);
                 }
-                Outcome::Ran => self.ran = self.ran.saturating_add(1),
-                Outcome::Differs => return Ok(false),
+                Found::Ran => self.ran = self.ran.saturating_add(1),
+                Found::Differs => return Ok(false),
             }
         }
         Ok(true)

@@ -152,27 +152,27 @@ pub(crate) fn is_refused_or_agrees(alloc: Global, fixture: &Fixture, text: &[u8]
     }
 }
 
-/// What is found of a text, by the program and by the plain verifier and the plain machine.
-pub(crate) enum Outcome {
+/// What is found of a text, by the program and by the reference verifier and the reference machine.
+pub(crate) enum Found {
     RefusedByDecoder,
     /// The plain verifier refuses it alike.
     RefusedByVerifier,
-    /// The plain verifier knows the same of it, and it goes as on the plain machine.
+    /// The plain verifier knows the same of it, and it goes as on the reference machine.
     Ran,
     Differs,
 }
 
 /// What is found of a text.
-pub(crate) fn found_of(alloc: Global, fixture: &Fixture, text: &[u8]) -> Outcome {
+pub(crate) fn found_of(alloc: Global, fixture: &Fixture, text: &[u8]) -> Found {
     let verified = verdict(alloc, fixture, text);
     if !is_verdict_alike(alloc, fixture, text, &verified) {
-        return Outcome::Differs;
+        return Found::Differs;
     }
     match verified {
-        Ok(program) if gone(alloc, fixture, text, &program).is_some() => Outcome::Ran,
-        Err(refused) if refused.number <= CUT_WIDE => Outcome::RefusedByDecoder,
-        Err(refused) if refused != Refused::OUT_OF_MEMORY => Outcome::RefusedByVerifier,
-        _ => Outcome::Differs,
+        Ok(program) if gone(alloc, fixture, text, &program).is_some() => Found::Ran,
+        Err(refused) if refused.number <= CUT_WIDE => Found::RefusedByDecoder,
+        Err(refused) if refused != Refused::OUT_OF_MEMORY => Found::RefusedByVerifier,
+        _ => Found::Differs,
     }
 }
 
@@ -209,15 +209,15 @@ fn goes_as(alloc: Global, row: &Row, program: &Verified, wanted: RunReply) -> bo
 /// Whether a program that was verified goes as its row says.
 fn is_as(alloc: Global, row: &Row, verified: &Result<Verified, Refused>) -> bool {
     match (verified, row.wanted) {
-        (Ok(program), Outcome::Returned { number, steps }) => {
+        (Ok(program), Found::Returned { number, steps }) => {
             goes_as(alloc, row, program, RunReply { ret: number, steps })
         }
-        (Err(refused), Outcome::Refused(wanted)) => *refused == wanted,
+        (Err(refused), Found::Refused(wanted)) => *refused == wanted,
         _ => false,
     }
 }
 
-/// Whether a program goes as its row says, and the plain verifier says the same of it.
+/// Whether a program goes as its row says, and the reference verifier says the same of it.
 pub(crate) fn agrees(alloc: Global, row: &Row) -> bool {
     let text = row.text.as_slice();
     let verified = verdict(alloc, &row.fixture, text);
