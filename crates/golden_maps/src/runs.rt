@@ -155,9 +155,9 @@ pub(crate) fn is_refused_or_agrees(alloc: Global, fixture: &Fixture, text: &[u8]
 /// What is found of a text, by the program and by the reference verifier and the reference machine.
 pub(crate) enum Found {
     RefusedByDecoder,
-    /// The plain verifier refuses it alike.
+    /// The reference verifier refuses it alike.
     RefusedByVerifier,
-    /// The plain verifier knows the same of it, and it goes as on the reference machine.
+    /// The reference verifier knows the same of it, and it goes as on the reference machine.
     Ran,
     Differs,
 }
@@ -209,10 +209,10 @@ fn goes_as(alloc: Global, row: &Row, program: &Verified, wanted: RunReply) -> bo
 /// Whether a program that was verified goes as its row says.
 fn is_as(alloc: Global, row: &Row, verified: &Result<Verified, Refused>) -> bool {
     match (verified, row.wanted) {
-        (Ok(program), Found::Returned { number, steps }) => {
+        (Ok(program), Outcome::Returned { number, steps }) => {
             goes_as(alloc, row, program, RunReply { ret: number, steps })
         }
-        (Err(refused), Found::Refused(wanted)) => *refused == wanted,
+        (Err(refused), Outcome::Refused(wanted)) => *refused == wanted,
         _ => false,
     }
 }
