@@ -1,7 +1,7 @@
 /* How long the library's calls take beside what its peers do for the same, in nanoseconds: peers [ROUNDS [REPEATS [TEXTS]]]
  *
- * First whole runs: of a program of two instructions, of the parser of examples/packet.c, and of five programs of 20 to 60 steps out of
- * bench/corpus_v2.texts (or TEXTS), whose jumps DPDK knows. Their answers and maps are compared first. Then calls: a lookup and an update
+ * First whole runs: of a program of two instructions, of the counter of examples/shared_pages.toml (a lookup, a load and a store), of the parser of
+ * examples/packet.c, and of five programs of 20 to 60 steps out of bench/corpus_v2.texts (or TEXTS), whose jumps DPDK knows. Their answers and maps are compared first. Then calls: a lookup and an update
  * of 8 bytes, a visit of a merged page, and a load of 4,096 slots with its unload. The engines take turns; the median of ROUNDS rounds (9)
  * counts, in which each makes REPEATS (20) times as many calls as a row has. Exits 1 where engines differ, or a call is refused. */
 #define _POSIX_C_SOURCE 200809L
@@ -20,6 +20,11 @@ static const char *const TAKEN[][2] = {
 };
 
 static const uint8_t RETURN_42[2][8] = {{0xb7, 0, 0, 0, 42}, {0x95}};
+
+static const uint8_t COUNTER[14][8] = {
+    {0x62, 0x0a, 0xfc, 0xff}, {0xbf, 0xa2}, {0x07, 2, 0, 0, 0xfc, 0xff, 0xff, 0xff}, {0x18, 0x11}, {0}, {0x85, 0, 0, 0, 1}, {0x55, 0, 2},
+    {0xb7}, {0x95}, {0x79, 1}, {0x07, 1, 0, 0, 1}, {0x7b, 0x10}, {0xbf, 0x10}, {0x95},
+};
 
 /* A host whose two tenants have a page each, which are merged. */
 static struct bpf_host host;
@@ -56,14 +61,23 @@ static void print_run(const struct program *program, int rounds, int repeats)
     bpf_host_free(&loaded.host);
 }
 
+/* A program that stands here, with its text and contexts of 64 bytes. */
+static const struct program *with_text(struct program *program, const uint8_t (*text)[8])
+{
+    program->context_size = 64;
+    program->text = wanted(malloc(sizeof *text * program->slots), "memory ran out");
+    memcpy(program->text, text, sizeof *text * program->slots);
+    draw_contexts(program);
+    return program;
+}
+
 static void print_runs(int rounds, int repeats)
 {
-    static struct program two = {.file = "two", .name = "instructions", .context_size = 64, .slots = 2};
-    two.text = wanted(malloc(sizeof RETURN_42), "memory ran out");
-    memcpy(two.text, RETURN_42, sizeof RETURN_42);
-    draw_contexts(&two);
+    static struct program two = {.file = "two", .name = "instructions", .slots = 2};
+    static struct program counter = {.file = "shared_pages.toml", .name = "counter", .slots = 14, .map_count = 1, .shapes = {{1, 8, 8, NULL}}};
     printf("| ns a run | steps | library | C switch | DPDK | library / switch | DPDK / switch |\n|---|---|---|---|---|---|---|\n");
-    print_run(&two, rounds, repeats);
+    print_run(with_text(&two, RETURN_42), rounds, repeats);
+    print_run(with_text(&counter, COUNTER), rounds, repeats);
     for (size_t at = 0; at < sizeof TAKEN / sizeof *TAKEN; at++)
         print_run(find(TAKEN[at][0], TAKEN[at][1]), rounds, repeats);
 }
