@@ -34,3 +34,4 @@ pub mod Advancing
 pub mod Ahead
 pub mod Beginning
 pub mod OnMaps
+pub mod Paired

@@ -7,3 +7,4 @@ pub mod Needs
 pub mod StandsFor
 pub mod OwnNumbers
 pub mod OnMaps
+pub mod Pairs

@@ -8,6 +8,7 @@ mod maps;
 mod memory;
 mod need;
 mod on_maps;
+mod pairs;
 mod run;
 mod step;
 
