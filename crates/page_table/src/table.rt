@@ -1,5 +1,5 @@
 ghost use Rattle.std.specs.Prelude.{◌≡◌, ◌≢◌, ◌+◌, ◌-◌, ◌<◌, ◌≤◌, nat_lt, true, false, [], ◌∷◌, ◌++◌, All, drop, find, map, option_map, length, replicate, slice_index_or, slice_set, Option, Some, None, if◌then◌else◌, ◌==◌, IfOk, IfSome, MatchOption, ℕ};
-ghost use Rattle.host_types.specs.Bytes.{with_part};
+ghost use Rattle.host_types.specs.Bytes.{bytes_of, with_part};
 ghost use Rattle.page_table.specs.declared.pass.Pass.{Pass};
 ghost use Rattle.host_types.specs.declared.status.Status.TheVariants.{Grouped};
 ghost use Rattle.host_types.specs.Sharing.{new_page, is_shared, is_shared_page, state_at, broken, break_cost, pages_broken, cost_from, gone, gone_from, paired, zeroed, with_status};
@@ -7,7 +7,7 @@ ghost use Rattle.host_types.specs.Counters.{repeated_among, seconds_following};
 ghost use Rattle.host_types.specs.Unmerging.{unmerge_need, SharesNothing};
 ghost use Rattle.host_types.specs.Visits.{first_mergeable, is_mergeable, with_page};
 ghost use Rattle.host_types.specs.Pages.{zero_page};
-ghost use Rattle.frame_arena.specs.Pages.{IsPage, page_at};
+ghost use Rattle.frame_arena.specs.Pages.{IsPage, IsAccessSize, page_at};
 ghost use Rattle.page_table.specs.declared.entry.Entry.{Entry};
 ghost use Rattle.page_table.specs.Table.{TableState, CountsState, AreCounts, IsSound, IsEntry, IsPageAt, IsOwnAt, AreOwnKept, AreOwnKeptOutside, AreOthersKept, entry_at, states_of, contents_of, frames_of, groups_of, sharing_of, forgets, used_by, break_frames, is_on, pages_on, one_if_zero, times, state_of, is_open_frame, joined_on, marked};
 ghost use Rattle.page_table.specs.Tallies.{IsTally};
@@ -215,6 +215,22 @@ impl Table {
     {
         let entry = self.page(page_index);
         self.arena.put(entry.frame, at, bytes);
+    }
+
+    /// Writes the lowest `size` bytes of a number, 1, 2, 4 or 8 of them, into a page that has a frame of its own.
+    pub(crate) fn put_number(&mut self, page_index: usize, at: u32, size: u32, value: u64)
+        requires there { IsPageAt self.old page_index }
+        requires own { IsOwnAt self.old page_index }
+        requires size { IsAccessSize size }
+        requires in_page { at + size ≤ 4096 }
+        ensures contents { contents_of self.new ≡ slice_set (contents_of self.old) page_index
+            (with_part (slice_index_or (contents_of self.old) page_index []) at (bytes_of size value)) }
+        ensures entries { self.new.entries ≡ self.old.entries }
+        ensures groups { self.new.groups ≡ self.old.groups }
+        ensures arena { length self.new.arena ≡ length self.old.arena }
+    {
+        let entry = self.page(page_index);
+        self.arena.write(entry.frame, at, size, value);
     }
 
     /// How many frames the break of a page takes. The last page of a group keeps its frame; the zero

@@ -1,10 +1,11 @@
 //! Writes into pages, and how a page is taken out before: it gets a frame of its own.
 
 ghost use Rattle.std.specs.Prelude.{◌≡◌, ◌+◌, ◌*◌, ◌<◌, ◌≤◌, ◌&&◌, length, true};
-ghost use Rattle.host_types.specs.Bytes.{part_of, with_part};
+ghost use Rattle.host_types.specs.Bytes.{bytes_of, part_of, with_part};
 ghost use Rattle.host_types.specs.Pages.{page_index_of};
 ghost use Rattle.host_types.specs.Pins.{broken_for_run, is_pinned};
 ghost use Rattle.host_types.specs.Sharing.{state_at, is_shared_page, break_cost, cost_from};
+ghost use Rattle.frame_arena.specs.Pages.{IsAccessSize};
 ghost use Rattle.page_table.specs.State.{part, bytes_of_map, free_of, have_of};
 ghost use Rattle.page_table.specs.Changes.{part_written, OtherTenantsUnchanged, AreMapsKeptBut, KeepsSettings, with_pins, IsPageOf, IsOwn};
 
@@ -30,6 +31,29 @@ impl Memory {
         ensures settings { KeepsSettings self.old self.new }
     {
         self.table.put(index_of_page(page), at, bytes);
+    }
+
+    /// Writes the lowest `size` bytes of a number, 1, 2, 4 or 8 of them, into a page that has a frame of its own, from
+    /// the byte `at` on, the lowest first. Of a width that the caller knows it is one write, where `put` copies bytes
+    /// one after another.
+    pub fn put_number(&mut self, page: Page, at: u32, size: u32, value: u64)
+        requires there { IsPageOf self.old page }
+        requires own { IsOwn self.old page }
+        requires size { IsAccessSize size }
+        requires in_page { at + size ≤ 4096 }
+        requires in_map { page.number * 4096 + at + size ≤ length (bytes_of_map self.old page) }
+        ensures written { part self.new page.tenant ≡
+            part_written (part self.old page.tenant) page.map (page.number * 4096 + at) (bytes_of size value) }
+        ensures bytes { bytes_of_map self.new page ≡
+            with_part (bytes_of_map self.old page) (page.number * 4096 + at) (bytes_of size value) }
+        ensures length { length (bytes_of_map self.new page) ≡ length (bytes_of_map self.old page) }
+        ensures other_maps { AreMapsKeptBut page.map (part self.old page.tenant) (part self.new page.tenant) }
+        ensures others { OtherTenantsUnchanged page.tenant self.old self.new }
+        ensures sharing { self.new.sharing ≡ self.old.sharing }
+        ensures frames { self.new.frames ≡ self.old.frames }
+        ensures settings { KeepsSettings self.old self.new }
+    {
+        self.table.put_number(index_of_page(page), at, size, value);
     }
 
     /// How many frames the break of a page takes: one for a page that shares its frame, none for the
