@@ -1,21 +1,13 @@
--- Numbers as bytes, and where loads and stores lie in pages.
-use Rattle.std.proofs.Common.{◌≡◌, ◌⊎◌, ℕ, zero, suc, ◌+◌, ◌/◌, ◌%◌, ◌≤◌, ◌∷◌, take, refl, sym, ap, subst, ⊎_elim, arith}
+-- Where loads and stores lie in pages.
+use Rattle.std.proofs.Common.{◌≡◌, ◌⊎◌, ℕ, ◌+◌, ◌%◌, ◌<◌, ◌≤◌, sym, subst, ⊎_elim, arith}
 use Rattle.std.proofs.lemmas.Bool.Decides.{nat_tests}
-use Rattle.host_types.specs.Bytes.{bytes_of}
 use Rattle.frame_arena.specs.Pages.{IsAccessSize}
-
--- the first bytes of a number are its lowest
-pub take-bytes_of : (size n number : ℕ) → size ≤ n → take size (bytes_of n number) ≡ bytes_of size number
-unfolding bytes_of
-take-bytes_of zero n number h = refl
-take-bytes_of (suc size) zero number h = absurd (omega arith)
-take-bytes_of (suc size) (suc n) number h = ap (λ l. number % 256 ∷ l) (take-bytes_of size n (number / 256) (omega arith))
 
 pub access_size : (size : ℕ) → IsAccessSize size → (size ≡ 1) ⊎ (size ≡ 2) ⊎ (size ≡ 4) ⊎ (size ≡ 8)
 access_size size is = grind (arith, nat_tests)
 
-pub small_size : (size : ℕ) → IsAccessSize size → size ≤ 8
-small_size size is = grind (arith, nat_tests)
+pub some_size : (size : ℕ) → IsAccessSize size → 0 < size
+some_size size is = grind (arith, nat_tests)
 
 -- an aligned load or store lies in one page
 pub access_in_page : (at size : ℕ) → IsAccessSize size → at % size ≡ 0 → at % 4096 + size ≤ 4096

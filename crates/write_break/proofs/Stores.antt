@@ -1,7 +1,7 @@
 -- A store page by page does what the whole store does.
-use Rattle.std.proofs.Common.{◌≡◌, ◌∙◌, ◌⊎◌, ⊎_elim, ℕ, zero, suc, ◌+◌, ◌-◌, ◌/◌, ◌%◌, ◌<◌, ◌≤◌, Bool, true, false, List, [], ◌∷◌, ◌++◌, length, take, drop, slice_set, Option, Some, None, option_map, unwrap_or, refl, sym, ap, arith}
+use Rattle.std.proofs.Common.{◌≡◌, ◌∙◌, ◌⊎◌, ⊎_elim, ℕ, zero, suc, ◌+◌, ◌-◌, ◌*◌, ◌/◌, ◌%◌, ◌<◌, ◌≤◌, Bool, true, false, List, [], ◌∷◌, ◌++◌, length, take, drop, slice_set, Option, Some, None, option_map, unwrap_or, refl, sym, ap, arith}
 use Rattle.std.proofs.lemmas.List.{get_or-set_same, set-get_or, set-set, append_assoc, length-append, length-take, take_at, drop_at, drop-drop}
-use Rattle.host_types.specs.Bytes.{with_part}
+use Rattle.host_types.specs.Bytes.{part_of, with_part}
 use Rattle.host_types.specs.Memory.{FlatMap, FlatMaps, map_at}
 use Rattle.host_types.specs.Sharing.{Sharing, state_at, is_shared_page, broken, break_cost, pages_broken, cost_from}
 use Rattle.host_types.specs.Pins.{broken_for_run, broken_for_run_from}
@@ -9,7 +9,7 @@ use Rattle.host_types.proofs.Unmerging.{broken-own, broken-shared}
 use Rattle.host_types.proofs.Pins.{cost-by}
 use Rattle.host_types.specs.Tenant.{TenantPart}
 use Rattle.page_table.specs.State.{MemoryState, part, map_bytes, have_of}
-use Rattle.page_table.specs.Changes.{map_written, part_written, KeepsSettings}
+use Rattle.page_table.specs.Changes.{with_pins, map_written, part_written, AreMapsKeptBut, OtherTenantsUnchanged, KeepsSettings}
 use Rattle.page_table.proofs.Creating.{with_part-none}
 use Rattle.write_break.specs.Stores.{touched, page_of_byte, with_pins_of, stored_sharing, store_frames, IsStored}
 
@@ -169,6 +169,45 @@ part_written-twice owned m at first later some within = by_map (map_at owned.map
 -- what new frames may be had of hangs on the sharing, the frames and the reserves
 pub have-kept : (old new : MemoryState) → new.sharing ≡ old.sharing → KeepsSettings old new → have_of new ≡ have_of old
 have-kept old new same kept = rw (same, kept.frames, kept.tenants) refl
+
+-- a page was taken out, and pinned where that was asked
+pub record IsTakenOut (is_pinned : Bool) (old new : MemoryState) (tenant i : ℕ) : Type 0 where
+  pub owned : part new tenant ≡ with_pins_of new.sharing tenant (part old tenant)
+  pub others : OtherTenantsUnchanged tenant old new
+  pub sharing : new.sharing ≡ broken_for_run is_pinned old.sharing i
+  pub have : have_of new + break_cost old.sharing i ≡ have_of old
+  pub settings : KeepsSettings old new
+
+-- bytes were written into a page with a frame of its own
+pub record IsPut (old new : MemoryState) (tenant m at : ℕ) (input : List ℕ) : Type 0 where
+  pub written : part new tenant ≡ part_written (part old tenant) m at input
+  pub bytes : map_bytes (part new tenant) m ≡ with_part (map_bytes (part old tenant) m) at input
+  pub sized : length (map_bytes (part new tenant) m) ≡ length (map_bytes (part old tenant) m)
+  pub other_maps : AreMapsKeptBut m (part old tenant) (part new tenant)
+  pub others : OtherTenantsUnchanged tenant old new
+  pub sharing : new.sharing ≡ old.sharing
+  pub settings : KeepsSettings old new
+
+-- bytes of one page stored: the page is taken out, and then they are written
+pub stored-once : (is_pinned : Bool) (old taken new : MemoryState) (tenant m at : ℕ) (input : List ℕ) → 0 < length input → at % 4096 + length input ≤ 4096
+    → IsTakenOut is_pinned old taken tenant (page_of_byte tenant m at) → IsPut taken new tenant m at input → IsStored is_pinned old new tenant m at input
+stored-once is_pinned old taken new tenant m at input some in_page out put =
+    let owned = out.owned in
+    let pins = ap (λ (s : Sharing). part_of s.pins (tenant * 2048) 2048) (sym put.sharing) in
+    let sharing = sharing-one old.sharing tenant m at (length input) some in_page is_pinned in
+    let cost = cost-one old.sharing tenant m at (length input) some in_page in
+    let same = have-kept taken new put.sharing put.settings in
+    let before = out.have in
+    record {
+      written = (rw owned at put.written) ∙ ap (λ (pins : List Bool). with_pins pins (part_written (part old tenant) m at input)) pins;
+      bytes = rw owned at put.bytes;
+      sized = rw owned at put.sized;
+      other_maps = rw owned at put.other_maps;
+      others = λ t ne. put.others t ne ∙ out.others t ne;
+      sharing = put.sharing ∙ out.sharing ∙ sym sharing;
+      have = omega (arith, same, before, cost);
+      settings = record { tenants = put.settings.tenants ∙ out.settings.tenants; frames = put.settings.frames ∙ out.settings.frames };
+    }
 
 -- no bytes stored
 pub stored-none : (is_pinned : Bool) (memory : MemoryState) (tenant m at : ℕ) → IsStored is_pinned memory memory tenant m at []

@@ -5,7 +5,6 @@ ghost use Rattle.page_table.specs.State.{part, map_bytes, have_of};
 ghost use Rattle.page_table.specs.Changes.{part_written, OtherTenantsUnchanged, AreMapsKeptBut, KeepsSettings};
 ghost use Rattle.write_break.specs.Stores.{touched, part_stored, with_pins_of, stored_sharing, store_frames, IsStored};
 
-use crate::number::word;
 use host_types::limits::PAGE_SIZE;
 use host_types::{MapNo, Page};
 use page_table::Memory;
@@ -84,15 +83,10 @@ pub fn store(memory: &mut Memory, tenant: u32, map: MapNo, at: u32, size: u32, v
     ensures have { have_of memory.new + store_frames memory.old.sharing tenant map at size ≡ have_of memory.old }
     ensures settings { KeepsSettings memory.old memory.new }
 {
+    let page = page_of(tenant, map, at);
     let by_run = memory.is_running(tenant);
-    store_in_page(
-        memory,
-        tenant,
-        map,
-        at,
-        &word(value)[..size as usize],
-        by_run,
-    );
+    memory.take_out_as(page, by_run);
+    memory.put_number(page, at % PAGE_SIZE, size, value);
 }
 
 /// Writes bytes to a tenant's map from the byte `at` on. Each of their pages that shares its frame is

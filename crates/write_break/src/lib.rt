@@ -3,6 +3,5 @@
 #![tactic(auto)]
 
 mod access;
-mod number;
 
 pub use access::{load, needs, page_of, store, store_bytes, store_bytes_as};
