@@ -7,7 +7,6 @@ ghost use Rattle.tenant_runs.specs.Storing.{maps_of_part, HasStoreFrames, HasSto
 
 use crate::needs::look_up;
 use bpf_decode::Size;
-use byteorder::{ByteOrder, LittleEndian};
 use host_types::MapNo;
 use host_types::limits::PAGE_SIZE;
 use interp::MapMemory;
@@ -63,7 +62,7 @@ fn store_apart(memory: &mut Memory, tenant: u32, map: MapNo, at: u32, size: Size
     memory.facts();
 }
 
-/// Stores the low bytes of a number to a page that has a frame of its own: as many bytes as the code says, after no call.
+/// Stores the low bytes of a number to a page that has a frame of its own: one write of the width that the code says, after no call.
 #[inline(always)]
 fn store_own(memory: &mut Memory, tenant: u32, map: MapNo, at: u32, size: Size, value: u64)
     requires within { at + byte_count size ≤ length (map_bytes (part memory.old tenant) map) }
@@ -71,9 +70,7 @@ fn store_own(memory: &mut Memory, tenant: u32, map: MapNo, at: u32, size: Size, 
     requires own { IsOwn memory.old (record { tenant = tenant; map = map; number = at / 4096 }) }
     ensures { HasStored tenant memory.old map at size value memory.new }
 {
-    let mut word = [0; 8];
-    LittleEndian::write_u64(&mut word, value);
-    let bytes = &word[..size.bytes() as usize];
-    memory.put(page_of(tenant, map, at), at % PAGE_SIZE, bytes);
+    let page = page_of(tenant, map, at);
+    memory.put_number(page, at % PAGE_SIZE, size.bytes(), value);
     memory.facts();
 }
