@@ -1,2 +1,3 @@
 pub mod Falling
 pub mod Counting
+pub mod Records

@@ -42,6 +42,8 @@ pub fn admit(memory: &mut Memory, tenant: u32, need: u32) -> Result<(), Fault>
 
 /// Lowers what is reserved for a tenant's run to what is left of it, which isn't above what is recorded.
 /// The difference may be had by others at once.
+#[inline(always)]
+#[tactic(auto, using(crate::proofs::Records::part_kept, crate::proofs::Records::memory_kept))]
 pub fn lower(memory: &mut Memory, tenant: u32, left: u32)
     requires there { length (part memory.old tenant).maps ≡ 8 }
     requires most { left ≤ (part memory.old tenant).reserve }
@@ -50,10 +52,15 @@ pub fn lower(memory: &mut Memory, tenant: u32, left: u32)
     ensures all { memory.new ≡ with_record memory.old tenant left }
     ensures others { OtherTenantsUnchanged tenant memory.old memory.new }
 {
+    // For most runs nothing is reserved: then nothing is written.
+    if memory.reserve(tenant) == left {
+        return;
+    }
     memory.record(tenant, left);
 }
 
 /// Ends a tenant's run: nothing is reserved for it any more, and none of the tenant's pages is pinned.
+#[inline(always)]
 pub fn release(memory: &mut Memory, tenant: u32)
     requires there { length (part memory.old tenant).maps ≡ 8 }
     ensures recorded { part memory.new tenant ≡ without_run (part memory.old tenant) }

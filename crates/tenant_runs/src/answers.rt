@@ -11,7 +11,7 @@ ghost use Rattle.tenant_runs.specs.UnderWay.{IsUnderWay, IsAsking, part_with_hav
 
 use crate::maps::TenantMaps;
 use crate::needs::fulfil;
-use admission::needed;
+use admission::{lower, needed};
 use interp::{Need, Run};
 use page_table::Memory;
 use verifier::Verified;
@@ -81,7 +81,7 @@ pub fn finish(memory: &mut Memory, tenant: u32, program: &Verified, run: &mut Ru
     let maps = TenantMaps { tenant };
     loop {
         // All that is reserved for the run may be had while it makes its steps.
-        memory.record(tenant, 0);
+        lower(memory, tenant, 0);
         match run.advance_on(program, &maps, memory, program.instructions()) {
             Need::Ended(ret) => {
                 return RunReply {

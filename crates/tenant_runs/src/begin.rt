@@ -5,7 +5,7 @@ ghost use Rattle.admission.specs.Reserve.{needed_from};
 ghost use Rattle.interp.specs.StandsFor.{IsBegun};
 ghost use Rattle.tenant_runs.specs.UnderWay.{RefusesOpen};
 
-use admission::{admit, needed};
+use admission::needed;
 use host_types::Fault;
 use interp::Run;
 use page_table::Memory;
@@ -46,7 +46,9 @@ pub fn open_run(
 }
 
 /// Opens a run as `open_run` does, in a run that the tenant has kept, whose memory it takes: it asks for memory only where
-/// the context is longer than those before. A refusal changes nothing.
+/// the context is longer than those before. A refusal changes nothing. It is part of each caller, since a short run is mostly
+/// its beginning and its end.
+#[inline(always)]
 pub fn reopen_run(
     memory: &mut Memory,
     tenant: u32,
@@ -78,8 +80,11 @@ pub fn reopen_run(
     if have < need {
         return Err(Fault::NoFrames { need, have });
     }
-    if run.restart(program, context).is_err() {
-        return Err(Fault::OutOfMemory);
+    match run.restart(program, context) {
+        Ok(()) => {
+            memory.begin_run(tenant, need);
+            Ok(())
+        }
+        Err(_) => Err(Fault::OutOfMemory),
     }
-    admit(memory, tenant, need)
 }
