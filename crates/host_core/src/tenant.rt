@@ -6,7 +6,7 @@ ghost use Rattle.host_core.specs.HostView.{names_in};
 use crate::host::into_reply;
 use crate::reply::Reply;
 use crate::tenant_event::TenantEvent;
-use admission::{needed, release};
+use admission::{lower, needed, release};
 use host_calls::{
     decode_and_verify, host_create_map, host_lookup, host_lookup_into, host_shapes, host_update,
 };
@@ -507,7 +507,7 @@ impl OpenRun {
         program.facts();
         memory.facts();
         // All that is reserved for the run may be had while it makes its steps.
-        memory.record(number, 0);
+        lower(memory, number, 0);
         memory.facts();
         let maps = TenantMaps { tenant: number };
         let steps = lesser(program.instructions(), limit);
