@@ -3,7 +3,8 @@
  * Each program of bench/corpus.texts (or of TEXTS) runs on its 64 contexts by the C switch, and each pair and triple of instructions that
  * stand one after the other in the text is counted as often as it is run so. Prints the FIRST most frequent ones (20), with their share of
  * all steps, their mean share of a program's steps, by which they are ordered, and what share of the dispatches an interpreter saves that
- * makes one instruction of each sequence down to that row: sequences are looked for from the first step on, and none overlap. */
+ * makes one instruction of each sequence down to that row: sequences are looked for from the first step on, and none overlap. Then prints what
+ * the pairs save that have a code of their own. */
 #define _POSIX_C_SOURCE 200809L
 #include <stdint.h>
 
@@ -171,6 +172,46 @@ static void print_code(uint8_t code)
     }
 }
 
+/* What the operations are called in the names of the codes of pairs, and their opcodes; one with an immediate and one with a register
+ * have one name. */
+static const char CODE_FILE[] = "crates/bpf_decode/src/code.rt";
+static const struct form {
+    const char *name;
+    uint8_t opcode, other;
+} FORMS[] = {
+    {"Mov64", 0xb7, 0xbf}, {"Add64", 0x07, 0x0f}, {"And64", 0x57, 0x5f}, {"Or64", 0x47, 0x4f}, {"Lsh64", 0x67, 0x6f},
+    {"Rsh64", 0x77, 0x7f}, {"Arsh64", 0xc7, 0xcf}, {"LoadImmediate", 0x18, 0x18}, {"LoadByte", 0x71, 0x71}, {"LoadWord", 0x61, 0x61},
+    {"LoadDoubleWord", 0x79, 0x79}, {"StoreDoubleWord", 0x7a, 0x7b}, {"JumpByOffset", 0x05, 0x05}, {"Equal64", 0x15, 0x1d},
+    {"NotEqual64", 0x55, 0x5d}, {"Less64", 0xa5, 0xad}, {"Greater64", 0x25, 0x2d}, {"Call", 0x85, 0x85}, {"Exit", 0x95, 0x95},
+};
+
+/* Marks the codes that two forms have, one after the other. */
+static void mark_pair(const struct form *first, const struct form *second)
+{
+    for (uint32_t a = 0; a < code_count; a++)
+        for (uint32_t b = 0; b < code_count; b++)
+            if (((opcodes[a] & 255) == first->opcode || (opcodes[a] & 255) == first->other)
+                && ((opcodes[b] & 255) == second->opcode || (opcodes[b] & 255) == second->other))
+                in_program[a][b][0] = 1;
+}
+
+/* Marks each pair that has a code of its own: how many there are. */
+static int mark_pairs(const char *text)
+{
+    enum { COUNT = sizeof FORMS / sizeof *FORMS };
+    int pairs = 0;
+    memset(in_program, 0, sizeof in_program);
+    for (int at = 0; at < COUNT * COUNT; at++) {
+        char name[64];
+        snprintf(name, sizeof name, " %s%s,\n", FORMS[at / COUNT].name, FORMS[at % COUNT].name);
+        if (strstr(text, name) != NULL) {
+            mark_pair(&FORMS[at / COUNT], &FORMS[at % COUNT]);
+            pairs++;
+        }
+    }
+    return pairs;
+}
+
 static double steps_of_all(void)
 {
     double all = 0;
@@ -179,21 +220,28 @@ static double steps_of_all(void)
     return all;
 }
 
+/* What the marked sequences save: percents of a program's dispatches, and of all. */
+static void add_saved(int length, double *of_program, double *of_steps)
+{
+    *of_program = *of_steps = 0;
+    for (uint32_t number = 0; number < trace_count; number++) {
+        double of_this = saved_in(&traces[number], length);
+        *of_steps += 100 * of_this / steps_of_all();
+        *of_program += 100 * of_this / (double)traces[number].count / trace_count;
+    }
+}
+
 /* Prints a row: a sequence, its shares, and what the rows down to it save. */
 static void print_row(const struct sequence *sequence, int length)
 {
-    double saved = 0, mean = 0;
-    for (uint32_t number = 0; number < trace_count; number++) {
-        double of_this = saved_in(&traces[number], length);
-        saved += of_this;
-        mean += of_this / (double)traces[number].count / trace_count;
-    }
+    double saved, mean;
+    add_saved(length, &mean, &saved);
     printf("| `");
     for (int at = 0; at < length; at++) {
         print_code(sequence->code[at]);
         printf(at + 1 < length ? "; " : "` |");
     }
-    printf(" %.2f | %.2f | %.2f | %.2f |\n", 100 * sequence->of_programs, 100 * sequence->of_all, 100 * mean, 100 * saved / steps_of_all());
+    printf(" %.2f | %.2f | %.2f | %.2f |\n", 100 * sequence->of_programs, 100 * sequence->of_all, mean, saved);
 }
 
 static void print_table(int length, size_t first)
@@ -216,6 +264,19 @@ static void print_table(int length, size_t first)
     free(sequences);
 }
 
+/* Prints what the interpreter's own pairs save. */
+static void print_chosen(void)
+{
+    static char text[65536];
+    double mean, saved;
+    FILE *file = wanted(fopen(CODE_FILE, "r"), CODE_FILE);
+    text[fread(text, 1, sizeof text - 1, file)] = 0;
+    fclose(file);
+    int pairs = mark_pairs(text);
+    add_saved(2, &mean, &saved);
+    printf("\nThe %d pairs of %s save %.2f %% of a program's dispatches, and %.2f %% of all.\n", pairs, CODE_FILE, mean, saved);
+}
+
 int main(int words, char **word)
 {
     int first = number_of(words, word, 1, FIRST);
@@ -232,5 +293,6 @@ int main(int words, char **word)
            100 * (double)straight / steps_of_all(), program_count - trace_count);
     print_table(2, (size_t)first);
     print_table(3, (size_t)first);
+    print_chosen();
     return 0;
 }
