@@ -8,7 +8,6 @@ mod maps;
 mod memory;
 mod need;
 mod on_maps;
-mod pairs;
 mod run;
 mod step;
 
