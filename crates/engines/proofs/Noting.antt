@@ -22,7 +22,7 @@ use Rattle.engines.specs.declared.session.Session.{Session}
 use Rattle.host_types.specs.Refusals.{refusal_text}
 use Rattle.engines.specs.Lines.{line_of, reply_lines}
 use Rattle.engines.specs.Replay.{AreOf, AreOfAll, AreIfBegun, AreStepsUpTo, AreStepsToEnd, AreVisits, IsReplayed, refused, happened, latest_run, begun_after, pages_after, pages_by, lines_from, is_refusal, has_refusal}
-use Rattle.engines.specs.Sessions.{AreStepsMade, HasPrinted, HasNoted, IsOneEvent, Performs, begun_by}
+use Rattle.engines.specs.Sessions.{AreStepsMade, HasPrinted, HasNoted, IsOneEvent, HasPerformed, begun_by}
 
 -- an output that took nothing
 pub Appends-none : (known : Option (List ℕ)) → Appends known known []
@@ -251,7 +251,7 @@ begin-printed t program context reply old new was is printed = record {
 -- what is asked of the events may be said otherwise
 pub performs-as : (Asked Said : List Event → List Reply → Type 0) (old new : Session) (was is : Option (List ℕ))
     → ((events : List Event) (replies : List Reply) → Asked events replies → Said events replies)
-    → Performs Asked old new was is → Performs Said old new was is
+    → HasPerformed Asked old new was is → HasPerformed Said old new was is
 performs-as Asked Said old new was is so performs w stands =
     let (events, replies, next, asked, noted) = performs w stands in
     (events, replies, next, so events replies asked, noted)
@@ -271,14 +271,14 @@ Makes old new t limit last = (w : System) → StandsForSystem old w → (next : 
 
 -- steps of which the last was reported
 pub performs-steps : (host : HostView) (t limit : ℕ) (last : Reply) (old new : Session) (was is : Option (List ℕ))
-    → Makes old.host host t limit (Some last) → HasPrinted (Step t) last (with_host old host) new was is → Performs (AreStepsMade t limit) old new was is
+    → Makes old.host host t limit (Some last) → HasPrinted (Step t) last (with_host old host) new was is → HasPerformed (AreStepsMade t limit) old new was is
 performs-steps host t limit last old new was is makes printed w stands =
     let (next, stands', (events, replies, steps, happen)) = makes w stands in
     (events, replies, next, (Some last, steps, λ great. refl), noted-steps w next host t limit last events replies old new was is stands' steps happen printed)
 
 -- steps of which none was reported
 pub performs-stepped : (host : HostView) (t limit : ℕ) (old : Session) (was : Option (List ℕ))
-    → Makes old.host host t limit None → (4294967296 ≤ limit → IsSome {T = Reply} None) → Performs (AreStepsMade t limit) old (with_host old host) was was
+    → Makes old.host host t limit None → (4294967296 ≤ limit → IsSome {T = Reply} None) → HasPerformed (AreStepsMade t limit) old (with_host old host) was was
 performs-stepped host t limit old was makes ends w stands =
     let (next, stands', (events, replies, steps, happen)) = makes w stands in
     (events, replies, next, (None, steps, ends), noted-stepped w next host t limit events replies old was stands' steps happen)
@@ -287,7 +287,7 @@ performs-stepped host t limit old was makes ends w stands =
 pub performs-printed : (host : HostView) (event : Event) (reply : Reply) (old new : Session) (was is : Option (List ℕ))
     → ((x : System) → StandsForSystem old.host x
     → (next : System) × StandsForSystem host next × Happens x event reply next × IsPromised x event reply next × IsCovered next)
-    → HasPrinted event reply (with_host old host) new was is → Performs (IsOneEvent event reply) old new was is
+    → HasPrinted event reply (with_host old host) new was is → HasPerformed (IsOneEvent event reply) old new was is
 performs-printed host event reply old new was is happens printed w stands =
     let (next, stands', happen, promised, covered) = happens w stands in
     (event ∷ [], reply ∷ [], next, (refl, refl), noted-printed w next host event reply old new was is stands' happen promised covered printed)
@@ -296,16 +296,16 @@ performs-printed host event reply old new was is happens printed w stands =
 pub performs-begin : (host : HostView) (t program : ℕ) (read context : List ℕ) (reply : Reply) (old new : Session) (was is : Option (List ℕ)) → read ≡ context
     → ((x : System) → StandsForSystem old.host x
     → (next : System) × StandsForSystem host next × Happens x (Begin t program read) reply next × IsPromised x (Begin t program read) reply next × IsCovered next)
-    → HasPrinted (Step t) reply (with_host old host) new was is → Performs (IsOneEvent (Begin t program context) reply) old new was is
+    → HasPrinted (Step t) reply (with_host old host) new was is → HasPerformed (IsOneEvent (Begin t program context) reply) old new was is
 performs-begin host t program read context reply old new was is same happens printed =
-    subst (λ bytes. Performs (IsOneEvent (Begin t program bytes) reply) old new was is) same
+    subst (λ bytes. HasPerformed (IsOneEvent (Begin t program bytes) reply) old new was is) same
     (performs-printed host (Begin t program read) reply old new was is happens
     (begin-printed t program read reply (with_host old host) new was is printed))
 
 -- a run that began and went on
 pub performs-run : (pages t program : ℕ) (context : List ℕ) (old half new : Session) (was mid_way is : Option (List ℕ))
-    → Performs (IsOneEvent (Begin t program context) Begun) old half was mid_way → Performs (AreStepsToEnd t) half new mid_way is
-    → Performs (AreOf pages (Run t program context)) old new was is
+    → HasPerformed (IsOneEvent (Begin t program context) Begun) old half was mid_way → HasPerformed (AreStepsToEnd t) half new mid_way is
+    → HasPerformed (AreOf pages (Run t program context)) old new was is
 performs-run pages t program context old half new was mid_way is begins goes w stands =
     let (first, replied, mid, (one, answer), noted) = begins w stands in
     let (more, further, next, steps, noted') = goes mid noted.stands in (
@@ -330,20 +330,20 @@ not_begun t (Refused fault) other = (refl, refl)
 
 -- a run that didn't begin
 pub performs-no_run : (pages t program : ℕ) (context : List ℕ) (reply : Reply) (old new : Session) (was is : Option (List ℕ)) → (reply ≡ Begun → ⊥)
-    → Performs (IsOneEvent (Begin t program context) reply) old new was is → Performs (AreOf pages (Run t program context)) old new was is
+    → HasPerformed (IsOneEvent (Begin t program context) reply) old new was is → HasPerformed (AreOf pages (Run t program context)) old new was is
 performs-no_run pages t program context reply old new was is other =
     performs-as (IsOneEvent (Begin t program context) reply) (AreOf pages (Run t program context)) old new was is
     (λ events replies alone. (reply, [], [], alone.0, alone.1, not_begun t reply other))
 
 -- no visits, once what was written is passed on, and one more visit
-pub performs-no_visit : (old : Session) (was is : Option (List ℕ)) → Keeps was is → Performs (AreVisits 0) old old was is
+pub performs-no_visit : (old : Session) (was is : Option (List ℕ)) → Keeps was is → HasPerformed (AreVisits 0) old old was is
 performs-no_visit old was is kept w stands = ([], [], w, (refl, refl), noted-none w old was is (Appends-kept was was is [] (Appends-none was) kept) stands)
 
 one-more : (n : ℕ) → replicate n Visit ++ Visit ∷ [] ≡ replicate (n + 1) Visit
 one-more n = replicate-append-replicate n 1 Visit
 
 pub performs-visit : (n : ℕ) (reply : Reply) (old half new : Session) (was mid_way is : Option (List ℕ))
-    → Performs (AreVisits n) old half was mid_way → Performs (IsOneEvent Visit reply) half new mid_way is → Performs (AreVisits (n + 1)) old new was is
+    → HasPerformed (AreVisits n) old half was mid_way → HasPerformed (IsOneEvent Visit reply) half new mid_way is → HasPerformed (AreVisits (n + 1)) old new was is
 performs-visit n reply old half new was mid_way is before last w stands =
     let (first, replied, mid, (visits, counted), noted) = before w stands in
     let (more, further, next, (one, answer), noted') = last mid noted.stands in (
@@ -388,7 +388,7 @@ of-as_long pages (command.Visit count) events replies (visits, counted) =
     ap length visits ∙ length-replicate (unwrap_or count pages) Visit ∙ sym counted
 
 -- no commands
-pub performs-none : (pages : ℕ) (old : Session) (was : Option (List ℕ)) → Performs (AreOfAll pages []) old old was was
+pub performs-none : (pages : ℕ) (old : Session) (was : Option (List ℕ)) → HasPerformed (AreOfAll pages []) old old was was
 performs-none pages old was w stands = ([], [], w, (refl, refl), noted-none w old was was (Appends-none was) stands)
 
 -- one more command
@@ -420,8 +420,8 @@ are_of-push pages (c ∷ commands) command events more replies further (first, r
     )
 
 pub performs-push : (commands : List Command) (command : Command) (old half new : Session) (was mid_way is : Option (List ℕ))
-    → Performs (AreOfAll old.pages_to_scan commands) old half was mid_way → Performs (AreOf half.pages_to_scan command) half new mid_way is
-    → Performs (AreOfAll old.pages_to_scan (commands ++ command ∷ [])) old new was is
+    → HasPerformed (AreOfAll old.pages_to_scan commands) old half was mid_way → HasPerformed (AreOf half.pages_to_scan command) half new mid_way is
+    → HasPerformed (AreOfAll old.pages_to_scan (commands ++ command ∷ [])) old new was is
 performs-push commands command old half new was mid_way is before last w stands =
     let (first, replied, mid, of_first, noted) = before w stands in
     let (more, further, next, of_last, noted') = last mid noted.stands in (
@@ -442,7 +442,7 @@ byte-status false = refl
 pub replayed-performed : (file : HostFile) (old new : Session) (was is : Option (List ℕ)) (status : ℕ)
     → StandsForSystem old.host (new_system file.frames file.tenants file.options) → old.begun.items ≡ replicate file.tenants 0
     → old.pages_to_scan ≡ file.options.pages_to_scan → old.has_refused ≡ false
-    → Performs (AreOfAll old.pages_to_scan file.commands) old new was is → status ≡ (if new.has_refused then 1 else 0) → IsReplayed file was is status
+    → HasPerformed (AreOfAll old.pages_to_scan file.commands) old new was is → status ≡ (if new.has_refused then 1 else 0) → IsReplayed file was is status
 replayed-performed file old new was is status stands begun pages clean performs printed =
     let (events, replies, next, are, noted) = performs (new_system file.frames file.tenants file.options) stands in
     happened events replies next (subst (λ p. AreOfAll p file.commands events replies) pages are) noted.happen

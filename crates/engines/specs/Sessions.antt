@@ -45,7 +45,7 @@ pub record HasNoted (events : List Event) (replies : List Reply) (x next : Syste
 
 -- a session made some events happen, of which a relation says with their replies which ones, and noted them, in
 -- each system for which its host stood
-abbrev pub Performs : (List Event → List Reply → Type 0) → Session → Session → Option (List ℕ) → Option (List ℕ) → Type 0
-Performs Asked old new was is =
+abbrev pub HasPerformed : (List Event → List Reply → Type 0) → Session → Session → Option (List ℕ) → Option (List ℕ) → Type 0
+HasPerformed Asked old new was is =
     (x : System) → StandsForSystem old.host x
     → (events : List Event) × (replies : List Reply) × (next : System) × Asked events replies × HasNoted events replies x next old new was is

@@ -7,7 +7,7 @@ ghost use Rattle.host_file.specs.Faults.{IsBad};
 ghost use Rattle.host_file.specs.declared.command.Command.TheVariants.{Run};
 ghost use Rattle.engines.specs.Beginnings.{begin_event};
 ghost use Rattle.engines.specs.Replay.{AreOf, AreOfAll, AreStepsToEnd, AreVisits, latest_run, one_more_run, pages_after, runs_begun};
-ghost use Rattle.engines.specs.Sessions.{AreStepsMade, HasPrinted, IsOneEvent, Performs};
+ghost use Rattle.engines.specs.Sessions.{AreStepsMade, HasPrinted, IsOneEvent, HasPerformed};
 
 use crate::beginning::Beginning;
 use crate::explanation::{Known, explain_beginning, explain_event};
@@ -76,7 +76,7 @@ impl Session {
         diagnostics: &mut E,
         watch: &mut V,
     ) -> Result<(), FileFault>
-        ensures performs { OnOk result (Performs (AreOfAll self.old.pages_to_scan commands.now) self.old self.new (W.contents writer.old) (W.contents writer.new)) }
+        ensures performs { OnOk result (HasPerformed (AreOfAll self.old.pages_to_scan commands.now) self.old self.new (W.contents writer.old) (W.contents writer.new)) }
         ensures bad { IfErr result (λ fault. ¬ IsBad fault) }
     {
         for (number, command) in commands.iter().enumerate() {
@@ -94,7 +94,7 @@ impl Session {
         diagnostics: &mut E,
         watch: &mut V,
     ) -> Result<(), FileFault>
-        ensures performs { OnOk result (Performs (AreOf self.old.pages_to_scan command.now) self.old self.new (W.contents writer.old) (W.contents writer.new)) }
+        ensures performs { OnOk result (HasPerformed (AreOf self.old.pages_to_scan command.now) self.old self.new (W.contents writer.old) (W.contents writer.new)) }
         ensures bad { IfErr result (λ fault. ¬ IsBad fault) }
     {
         match command {
@@ -134,7 +134,7 @@ impl Session {
         diagnostics: &mut E,
         watch: &mut V,
     ) -> Result<(), FileFault>
-        ensures performs { OnOk result (Performs (AreVisits count) self.old self.new (W.contents writer.old) (W.contents writer.new)) }
+        ensures performs { OnOk result (HasPerformed (AreVisits count) self.old self.new (W.contents writer.old) (W.contents writer.new)) }
         ensures bad { IfErr result (λ fault. ¬ IsBad fault) }
     {
         written(writer.flush())?;
@@ -154,7 +154,7 @@ impl Session {
         writer: &mut W,
         diagnostics: &mut E,
     ) -> Result<(), FileFault>
-        ensures performs { OnOk result (Performs (AreOf self.old.pages_to_scan (Run beginning.now.tenant beginning.now.program beginning.now.context.now))
+        ensures performs { OnOk result (HasPerformed (AreOf self.old.pages_to_scan (Run beginning.now.tenant beginning.now.program beginning.now.context.now))
             self.old self.new (W.contents writer.old) (W.contents writer.new)) }
         ensures bad { IfErr result (λ fault. ¬ IsBad fault) }
     {
@@ -173,7 +173,7 @@ impl Session {
         writer: &mut W,
         diagnostics: &mut E,
     ) -> Result<Reply, FileFault>
-        ensures performs { IfOk result (λ reply. Performs (IsOneEvent (begin_event beginning.now) reply) self.old self.new (W.contents writer.old) (W.contents writer.new)) }
+        ensures performs { IfOk result (λ reply. HasPerformed (IsOneEvent (begin_event beginning.now) reply) self.old self.new (W.contents writer.old) (W.contents writer.new)) }
         ensures bad { IfErr result (λ fault. ¬ IsBad fault) }
     {
         let context = beginning.context.as_slice();
@@ -197,7 +197,7 @@ impl Session {
         writer: &mut W,
         diagnostics: &mut E,
     ) -> Result<Reply, FileFault>
-        ensures performs { IfOk result (λ reply. Performs (IsOneEvent event.now reply) self.old self.new (W.contents writer.old) (W.contents writer.new)) }
+        ensures performs { IfOk result (λ reply. HasPerformed (IsOneEvent event.now reply) self.old self.new (W.contents writer.old) (W.contents writer.new)) }
         ensures bad { IfErr result (λ fault. ¬ IsBad fault) }
     {
         let reply = self.host.apply(event);
@@ -214,7 +214,7 @@ impl Session {
         writer: &mut W,
         diagnostics: &mut E,
     ) -> Result<(), FileFault>
-        ensures performs { OnOk result (Performs (AreStepsToEnd tenant) self.old self.new (W.contents writer.old) (W.contents writer.new)) }
+        ensures performs { OnOk result (HasPerformed (AreStepsToEnd tenant) self.old self.new (W.contents writer.old) (W.contents writer.new)) }
         ensures bad { IfErr result (λ fault. ¬ IsBad fault) }
     {
         self.make_steps(number, tenant, u64::MAX, writer, diagnostics)
@@ -229,7 +229,7 @@ impl Session {
         writer: &mut W,
         diagnostics: &mut E,
     ) -> Result<(), FileFault>
-        ensures performs { OnOk result (Performs (AreStepsMade tenant limit) self.old self.new (W.contents writer.old) (W.contents writer.new)) }
+        ensures performs { OnOk result (HasPerformed (AreStepsMade tenant limit) self.old self.new (W.contents writer.old) (W.contents writer.new)) }
         ensures bad { IfErr result (λ fault. ¬ IsBad fault) }
     {
         let Some(reply) = self.host.make_steps(tenant, limit) else {

@@ -1,7 +1,7 @@
 use Rattle.std.proofs.Common.{true≢false, sym, ◌∙◌, subst}
 use Rattle.std.proofs.lemmas.Result.{on_ok_weaker}
 use Rattle.engines.specs.Beginnings.{begin_event}
-use Rattle.engines.specs.Sessions.{IsOneEvent, Performs}
+use Rattle.engines.specs.Sessions.{IsOneEvent, HasPerformed}
 use Rattle.engines.proofs.Noting.{performs-run, performs-no_run}
 use Rattle.engines.proofs.session.Session.run.Goals as goal
 
@@ -19,7 +19,7 @@ returns-clause-performs g c =
     let half = g.W.Write.contents c.begin.new.writer in
     let is = g.W.Write.contents c.finish.new.writer in
     let beginning = c.args.beginning.now in
-    let begun = subst (λ reply. Performs (IsOneEvent (begin_event beginning) reply) c.args.self.now c.begin.new.self was half) (c.is_begun.ensures.0 c.if-not-is_begun.false) c.in_ok-reply.ensures.performs in
+    let begun = subst (λ reply. HasPerformed (IsOneEvent (begin_event beginning) reply) c.args.self.now c.begin.new.self was half) (c.is_begun.ensures.0 c.if-not-is_begun.false) c.in_ok-reply.ensures.performs in
     on_ok_weaker c.finish.result
     (performs-run c.args.self.now.pages_to_scan beginning.tenant beginning.program beginning.context.now c.args.self.now c.begin.new.self c.finish.new.self was half is begun)
     c.finish.ensures.performs

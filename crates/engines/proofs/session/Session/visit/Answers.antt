@@ -1,6 +1,6 @@
 use Rattle.std.proofs.Common.{◌≡◌, arith, subst}
 use Rattle.engines.specs.Replay.{AreVisits}
-use Rattle.engines.specs.Sessions.{Performs}
+use Rattle.engines.specs.Sessions.{HasPerformed}
 use Rattle.engines.proofs.Noting.{performs-no_visit, performs-visit}
 use Rattle.engines.proofs.session.Session.visit.Goals as goal
 
@@ -21,4 +21,4 @@ returns-clause-performs g c =
     let was = g.W.Write.contents c.args.writer.now in
     let is = g.W.Write.contents c.loop-visit.writer in
     let all : c.loop-visit._visit ≡ c.args.count = omega (arith, c.loop-visit-test.false, c.loop-visit.auto._visit-end) in
-    subst (λ n. Performs (AreVisits n) c.args.self.now c.loop-visit.self was is) all c.loop-visit.invariant
+    subst (λ n. HasPerformed (AreVisits n) c.args.self.now c.loop-visit.self was is) all c.loop-visit.invariant

@@ -1,8 +1,8 @@
 use Rattle.engines.specs.Replay.{AreVisits}
-use Rattle.engines.specs.Sessions.{Performs}
+use Rattle.engines.specs.Sessions.{HasPerformed}
 use Rattle.engines.proofs.session.Session.visit.Given as goal
 
 -- the visits so far were made
 abbrev pub invariant-loop-visit : goal.invariant-loop-visit
 invariant-loop-visit g l =
-    Performs (AreVisits l._visit) l.fn.self l.self (g.W.Write.contents l.fn.writer) (g.W.Write.contents l.writer)
+    HasPerformed (AreVisits l._visit) l.fn.self l.self (g.W.Write.contents l.fn.writer) (g.W.Write.contents l.writer)
