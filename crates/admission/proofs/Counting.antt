@@ -61,3 +61,19 @@ unpinned_next writes pages pins m sum here before is =
     let page_index : m * 256 ≡ 0 + m * 256 = omega arith in
     let there = is ∙ ap (λ (k : ℕ). if writes m then unpinned_from pins k (pages m) else 0) page_index in
     rw next (omega (arith, before, there))
+
+-- fewer maps have no more of them
+pub unpinned_grows : (writes : ℕ → Bool) (pages : ℕ → ℕ) (pins : List Bool) (m n : ℕ) → m ≤ n → unpinned_in writes pages pins 0 m ≤ unpinned_in writes pages pins 0 n
+unfolding unpinned_in
+unpinned_grows writes pages pins m zero few = rw (the_zero few) (omega arith)
+  where
+    the_zero : m ≤ 0 → m ≡ 0
+    the_zero few = omega (arith, few)
+unpinned_grows writes pages pins m (suc n) few = elim (cases_lt m (suc n)) [
+  | inl less ↦
+      let rest = unpinned_grows writes pages pins m n (omega (arith, less)) in
+      omega (arith, rest)
+  | inr all ↦
+      let same : m ≡ suc n = omega (arith, all, few) in
+      rw same (omega arith)
+]

@@ -1,5 +1,5 @@
 ghost use Rattle.std.specs.Prelude.{◌≡◌, ◌*◌, ◌<◌, ◌≤◌, if◌then◌else◌, replicate, false};
-ghost use Rattle.host_types.specs.Pins.{unpinned_from, unpinned_in};
+ghost use Rattle.host_types.specs.Pins.{capped, unpinned_from, unpinned_in};
 ghost use Rattle.page_table.specs.State.{part};
 ghost use Rattle.page_table.specs.Changes.{pages_of_map};
 ghost use Rattle.verifier.specs.Writes.{writes_from};
@@ -22,17 +22,22 @@ pub fn needed(program: &Verified, memory: &Memory, tenant: u32, slot: u32) -> u3
     if total == 0 {
         return 0;
     }
-    total.min(pages_to_take_out(program, memory, tenant, slot))
+    capped(program, memory, tenant, slot, total)
 }
 
-/// How many pages the rest of a run may take out: those that aren't pinned of the maps that it may write.
+/// The smaller of what a run's stores may take in all and of how many pages the rest of it may take out: those that
+/// aren't pinned of the maps that it may write. Once these are as many, no further map is looked at.
 #[inline(never)]
-fn pages_to_take_out(program: &Verified, memory: &Memory, tenant: u32, slot: u32) -> u32
-    ensures { result ≡ unpinned_in (writes_from program.now slot) (pages_of_map (part memory.now tenant)) (part memory.now tenant).pins 0 8 }
+fn capped(program: &Verified, memory: &Memory, tenant: u32, slot: u32, total: u32) -> u32
+    ensures { result ≡ capped total
+        (unpinned_in (writes_from program.now slot) (pages_of_map (part memory.now tenant)) (part memory.now tenant).pins 0 8) }
 {
     let mut pages = 0;
     for map in 0..MAX_MAPS as MapNo {
         pages += may_take_out(program, memory, tenant, slot, map);
+        if pages >= total {
+            return total;
+        }
     }
     pages
 }
