@@ -53,32 +53,3 @@ copied-not_out_of_memory (Ended number steps) result old new copied never_out is
 copied-not_out_of_memory (Visited visited) result old new copied never_out is_out = absurd copied
 copied-not_out_of_memory Done result old new copied never_out is_out = absurd copied
 copied-not_out_of_memory (Counters counters) result old new copied never_out is_out = absurd copied
-
-pub begun_is : (reply : Reply) → is_begun reply ≡ true → reply ≡ Begun
-begun_is Begun so = refl
-begun_is (Map number) so = absurd (subst T (sym so) tt)
-begun_is (Program number) so = absurd (subst T (sym so) tt)
-begun_is Stepped so = absurd (subst T (sym so) tt)
-begun_is (Ended number steps) so = absurd (subst T (sym so) tt)
-begun_is (Visited visited) so = absurd (subst T (sym so) tt)
-begun_is Done so = absurd (subst T (sym so) tt)
-begun_is (Value bytes) so = absurd (subst T (sym so) tt)
-begun_is (Counters counters) so = absurd (subst T (sym so) tt)
-begun_is (Refused fault) so = absurd (subst T (sym so) tt)
-
-pub begun_is_not : (reply : Reply) → is_begun reply ≡ false → reply ≢ Begun
-begun_is_not reply so = λ is. subst T (sym (ap is_begun is) ∙ so) tt
-
-module _ (t k : ℕ) (context : List ℕ) (begun : Reply) (x between : System) where
-  -- a run that isn't begun
-  pub stays_unrun : is_begun begun ≡ false → Serves (Begin t k context) begun x between → RunsWhole t k context begun x between
-  stays_unrun so served = inl (begun_is_not begun so, served)
-
-  -- a run that is begun, and makes its steps
-  pub runs : is_begun begun ≡ true → Serves (Begin t k context) begun x between → (o : Option Reply) (last : Reply) (x' : System)
-      → o ≡ Some last → StepsHappen between t 4294967296 o x' → RunsWhole t k context last x x'
-  runs so served o last x' is steps = inr (
-    between,
-    subst (λ (reply : Reply). Serves (Begin t k context) reply x between) (begun_is begun so) served,
-    subst (λ (reply : Option Reply). StepsHappen between t 4294967296 reply x') is steps,
-  )

@@ -88,8 +88,3 @@ option_of number =
     if number == 1 then Some Run else (
     if number == 2 then Some UseZeroPages else (
     if number == 3 then Some MaxPageSharing else None)))
-
--- a run is open
-abbrev pub is_begun : Reply → Bool
-is_begun Begun = true
-is_begun reply = false

@@ -1,16 +1,13 @@
 ghost use Rattle.std.specs.Prelude.{◌≡◌};
 ghost use Rattle.bpf_host_c.specs.declared.answer.Answer.{Answer as CallAnswer};
-ghost use Rattle.bpf_host_c.specs.Answered.{HasAnswer, Goes, RunsWhole, Steps};
-ghost use Rattle.bpf_host_c.specs.Codes.{call_code, run_written, ended_written, is_begun, refused_written};
+ghost use Rattle.bpf_host_c.specs.Answered.{HasAnswer, RunsWhole, Steps};
+ghost use Rattle.bpf_host_c.specs.Codes.{call_code, run_written, ended_written, refused_written};
 
 use crate::answer::Answer;
 use crate::handle::BpfHost;
 use crate::structs::{BpfHostRefused, BpfHostRun};
-use host_core::{Host, Reply};
+use host_core::Reply;
 use std::alloc::Global;
-
-/// More steps than a run makes.
-const ALL_STEPS: u64 = 4294967296;
 
 /// Runs a loaded program on a context, from its beginning to its end.
 #[unsafe(no_mangle)]
@@ -78,28 +75,7 @@ fn run_whole(
     let Some(mut host) = handle.take(alloc) else {
         return Answer::Closed;
     };
-    let reply = run(&mut host, tenant, program, context);
+    let reply = host.run(tenant, program, context);
     handle.put(host);
     Answer::Replied(reply)
-}
-
-/// Makes a whole run.
-fn run(host: &mut Host, tenant: u32, program: u32, context: &[u8]) -> Reply
-    ensures { Goes (RunsWhole tenant program context.now result) host.old host.new }
-{
-    let begun = host.begin(tenant, program, context);
-    if !has_begun(&begun) {
-        return begun;
-    }
-    match host.make_steps(tenant, ALL_STEPS) {
-        Some(last) => last,
-        None => unreachable!(),
-    }
-}
-
-/// Whether a reply says that a run is open.
-fn has_begun(reply: &Reply) -> bool
-    ensures { result ≡ is_begun reply.now }
-{
-    matches!(reply, Reply::Begun)
 }

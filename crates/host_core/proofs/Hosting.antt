@@ -21,8 +21,8 @@ use Rattle.host_core.specs.declared.tenant_event.TenantEvent.{TenantEvent}
 use Rattle.host_core.specs.declared.tenant_event.TenantEvent.TheVariants as tenant_event
 use Rattle.host_core.specs.declared.reply.Reply.TheVariants.{Visited as WasVisited, Done, Counters as AreCounters, Refused}
 use Rattle.host_core.specs.World.{System, all_maps, have_in, IsCovered}
-use Rattle.host_core.specs.Happens.{Happens, IsPromised, IsPromisedOf, SetHappens, UnmergeHappens, AllHappen, StepsHappen, changed_system}
-use Rattle.host_core.specs.HostView.{TenantView, HostView, StandsForTenant, StandsForMemory, StandsForSystem, IsKept, IsServed, IsAnswered, HasMadeSteps, event_of, reply_of}
+use Rattle.host_core.specs.Happens.{Happens, IsPromised, IsPromisedOf, SetHappens, UnmergeHappens, AllHappen, RunHappens, StepsHappen, changed_system}
+use Rattle.host_core.specs.HostView.{TenantView, HostView, StandsForTenant, StandsForMemory, StandsForSystem, IsKept, IsServed, IsAnswered, HasMadeRun, HasMadeSteps, event_of, reply_of}
 use Rattle.host_types.specs.Events.{tenant_of}
 use Rattle.page_table.specs.Reads.{ReadsAs}
 use Rattle.host_core.proofs.Joined.{AllHappen-join}
@@ -243,3 +243,22 @@ host-no_tenant views memory t limit some reads missing x stands =
 -- no steps
 pub host-none : (view : HostView) (t : ℕ) → HostMakesSteps view t 0 None view
 host-none view t x stands = (x, stands, (_, _, (refl, refl), refl))
+
+-- what a whole run of a tenant does to a host
+abbrev pub HostRuns : HostView → ℕ → ℕ → List ℕ → Reply → HostView → Type 0
+HostRuns old t k context reply new = (x : System) → StandsForSystem old x → (next : System) × StandsForSystem new next × RunHappens x t k context reply next
+
+-- a whole run that was made
+pub host-ran : (views : List TenantView) (before after : MemoryState) (t k : ℕ) (context : List ℕ) (old new : TenantView) (reply : Reply) → slice_get views t ≡ Some old → HasMadeRun t old before k context reply new after
+    → HostRuns (record { tenants = views; memory = before }) t k context reply (record { tenants = set views t new; memory = after })
+host-ran views before after t k context old new reply there made x stands =
+    let (tenant, found, stood) = AllZip-found StandsForTenant views x.world t old stands.tenants there in
+    let (next, sharing, stands', memory', happen) = made x tenant found stood stands.memory in
+    (changed_system x t next sharing, record { memory = memory'; tenants = AllZip-set StandsForTenant views x.world t new next stands.tenants stands' }, happen)
+
+-- a whole run of no tenant
+pub host-runs_none : (views : List TenantView) (memory : MemoryState) (t k : ℕ) (context : List ℕ) → ReadsAs memory → slice_get views t ≡ None
+    → HostRuns (record { tenants = views; memory = memory }) t k context (Refused fault.BadTenant) (record { tenants = views; memory = memory })
+host-runs_none views memory t k context reads missing x stands =
+    let both = no_tenant (Begin t k context) t x refl (AllZip-missing StandsForTenant views x.world t stands.tenants missing) in
+    (x, stands, inl ((λ e. cc), both.0, both.1, covered memory x reads stands.memory))

@@ -1,14 +1,16 @@
 -- Steps of a tenant that are made one after another, and the one Step event that one of them is.
-use Rattle.std.proofs.Common.{◌≡◌, ℕ, ◌+◌, ◌<◌, ◌≤◌, List, [], ◌∷◌, ◌++◌, replicate, Option, Some, None, is_some, true, false, sym, ap, refl, ◌∙◌, subst, arith}
+use Rattle.std.proofs.Common.{◌≡◌, ◌≢◌, inl, inr, ℕ, ◌+◌, ◌<◌, ◌≤◌, List, [], ◌∷◌, ◌++◌, replicate, Option, Some, None, is_some, true, false, sym, ap, refl, ◌∙◌, subst, arith}
 use Rattle.std.proofs.lemmas.List.{replicate-append-replicate, append_assoc}
 use Rattle.page_table.specs.State.{MemoryState}
 use Rattle.host_types.specs.declared.event.Event.{Event}
-use Rattle.host_types.specs.declared.event.Event.TheVariants.{Step}
+use Rattle.host_types.specs.declared.event.Event.TheVariants.{Begin, Step}
 use Rattle.host_core.specs.declared.reply.Reply.{Reply}
-use Rattle.host_core.specs.declared.reply.Reply.TheVariants.{Stepped}
+use Rattle.host_core.specs.declared.reply.Reply.TheVariants.{Begun, Stepped}
 use Rattle.host_core.specs.World.{Tenant, System}
-use Rattle.host_core.specs.Happens.{Happens, IsPromised, AllHappen, AreSteps, changed_system}
-use Rattle.host_core.specs.HostView.{TenantView, StandsForTenant, StandsForMemory, StandsForAnyRun, IsKept, IsServed, HasMadeSteps, HasCounted, steps_of}
+use Rattle.host_core.specs.Happens.{Happens, IsPromised, AllHappen, AreSteps, StepsHappen, changed_system}
+use Rattle.host_core.specs.HostView.{TenantView, StandsForTenant, StandsForMemory, StandsForAnyRun, IsKept, IsServed, HasMadeRun, HasMadeSteps, HasCounted, steps_of}
+use Rattle.page_table.specs.Reads.{ReadsAs}
+use Rattle.host_core.proofs.Systems.{covered}
 use Rattle.host_core.proofs.Joined.{AllHappen-join}
 use Rattle.bpf_decode.proofs.Numbering.{instructions_fit}
 use Rattle.host_core.specs.declared.tenant.OpenRun.{OpenRun as KeptRun}
@@ -113,3 +115,39 @@ made-some t n limit old new before after None less there made x tenant found s s
 made-some t n limit old new before after (Some last) less there made x tenant found s stands =
     let (next, sharing, stands', memory', (events, replies, (m, few, other, steps, all), happen)) = made x tenant found s stands in
     (next, sharing, stands', memory', (events, replies, (m, omega (arith, few, less), other, steps, all), happen))
+
+-- a tenant and a memory to which an event happened still stand for a system
+pub kept-served : (t : ℕ) (old new : TenantView) (before after : MemoryState) (event : Event) (reply : Reply) → IsServed t old before event reply new after → IsKept t old before → IsKept t new after
+kept-served t old new before after event reply served (x, tenant, there, s, memory) =
+    let (next, sharing, stands, memory', happens, promised) = served x tenant there s memory in
+    (changed_system x t next sharing, next, slice_get-set x.world t tenant next there, stands, memory')
+
+module _ (t k : ℕ) (context : List ℕ) (old begun : TenantView) (before between : MemoryState) (reply : Reply) (reads : ReadsAs between) (served : IsServed t old before (Begin t k context) reply begun between) where
+  -- a whole run that isn't begun
+  pub run-refused : reply ≢ Begun → HasMadeRun t old before k context reply begun between
+  run-refused other x tenant there s memory =
+      let (next, sharing, stands, memory', happens, promised) = served x tenant there s memory in
+      (next, sharing, stands, memory', inl (other, happens, promised, covered between (changed_system x t next sharing) reads memory'))
+
+  -- a whole run that is begun, and makes its steps
+  pub run-made : reply ≡ Begun → (new : TenantView) (after : MemoryState) (o : Option Reply) (last : Reply) → o ≡ Some last → HasMadeSteps t begun between 4294967296 o new after → HasMadeRun t old before k context last new after
+  run-made is new after o last some made x tenant there s memory =
+      let (next, sharing, stands, memory', happens, promised) = served x tenant there s memory in
+      let x' = changed_system x t next sharing in
+      let (next', sharing', stands', memory'', steps) = made x' next (slice_get-set x.world t tenant next there) stands memory' in
+      let same = changed_system-twice x t next next' sharing sharing' in
+      let all = subst (λ (one : Option Reply). StepsHappen x' t 4294967296 one (changed_system x' t next' sharing')) some steps in (
+        next',
+        sharing',
+        stands',
+        subst (StandsForMemory after) same memory'',
+        inr (
+          x',
+          (
+            subst (λ (one : Reply). Happens x (Begin t k context) one x') is happens,
+            subst (λ (one : Reply). IsPromised x (Begin t k context) one x') is promised,
+            covered between x' reads memory',
+          ),
+          subst (StepsHappen x' t 4294967296 (Some last)) same all,
+        ),
+      )

@@ -265,6 +265,14 @@ abbrev pub StepsHappen : System → ℕ → ℕ → Option Reply → System → 
 StepsHappen x t limit last x' =
     (events : List Event) × (replies : List Reply) × AreSteps t limit last events replies × AllHappen x events replies x'
 
+-- A whole run of a program on a context, from its beginning to its end. Where it isn't begun, that is the reply; else the reply is that
+-- to its last step. A run makes fewer than 2^32 steps.
+abbrev pub RunHappens : System → ℕ → ℕ → List ℕ → Reply → System → Type 0
+RunHappens x t k context reply x' =
+    ((reply ≢ Begun) × Happens x (Begin t k context) reply x' × IsPromised x (Begin t k context) reply x' × IsCovered x')
+    ⊎ ((begun : System) × (Happens x (Begin t k context) Begun begun × IsPromised x (Begin t k context) Begun begun × IsCovered begun)
+    × StepsHappen begun t 4294967296 (Some reply) x')
+
 -- two lists of events that happen one after the other happen as one list
 abbrev pub JoinHappens : Type 0
 JoinHappens =

@@ -17,7 +17,7 @@ use Rattle.host_core.specs.declared.tenant_event.TenantEvent.{TenantEvent}
 use Rattle.host_core.specs.declared.tenant_event.TenantEvent.TheVariants as tenant_event
 use Rattle.host_core.specs.declared.tenant.OpenRun.{OpenRun as KeptRun}
 use Rattle.host_core.specs.World.{OpenRun, Tenant, World, System, IsTenant, all_maps, names_there, owned_by}
-use Rattle.host_core.specs.Happens.{Happens, IsPromised, StepsHappen, changed_system}
+use Rattle.host_core.specs.Happens.{Happens, IsPromised, RunHappens, StepsHappen, changed_system}
 
 -- a tenant as a host keeps it: its accepted programs by index, and its open run, if it has one
 pub record TenantView : Type 0 where
@@ -132,6 +132,14 @@ HasMadeSteps t old before limit last new after =
     (x : System) (tenant : Tenant) → slice_get x.world t ≡ Some tenant → StandsForTenant old tenant → StandsForMemory before x
     → (next : Tenant) × (sharing : Sharing) × StandsForTenant new next × StandsForMemory after (changed_system x t next sharing)
     × StepsHappen x t limit last (changed_system x t next sharing)
+
+-- A whole run of a tenant was made on a context: in each such system it happens, and leaves a tenant there and pages for which
+-- tenant and memory stand now.
+abbrev pub HasMadeRun : ℕ → TenantView → MemoryState → ℕ → List ℕ → Reply → TenantView → MemoryState → Type 0
+HasMadeRun t old before k context reply new after =
+    (x : System) (tenant : Tenant) → slice_get x.world t ≡ Some tenant → StandsForTenant old tenant → StandsForMemory before x
+    → (next : Tenant) × (sharing : Sharing) × StandsForTenant new next × StandsForMemory after (changed_system x t next sharing)
+    × RunHappens x t k context reply (changed_system x t next sharing)
 
 -- how many steps a kept run made
 abbrev pub steps_of : Option KeptRun → ℕ

@@ -5,7 +5,7 @@ ghost use Rattle.host_types.specs.OptionTable.{AreOptions};
 ghost use Rattle.page_table.specs.Changes.{RefusesMemory};
 ghost use Rattle.page_table.specs.Limits.{AreLimits};
 ghost use Rattle.host_core.specs.World.{System, IsCovered, FoundIsOpen, new_system};
-ghost use Rattle.host_core.specs.Happens.{Happens, IsPromised, AllHappen, StepsHappen, SetHappens, UnmergeHappens, JoinHappens, SplitHappens};
+ghost use Rattle.host_core.specs.Happens.{Happens, IsPromised, AllHappen, RunHappens, StepsHappen, SetHappens, UnmergeHappens, JoinHappens, SplitHappens};
 ghost use Rattle.host_core.specs.HostView.{StandsForSystem, IsCopied, event_of, reply_of};
 ghost use Rattle.host_types.specs.declared.fault.Fault.TheVariants.{OutOfMemory};
 ghost use Rattle.host_types.specs.declared.event.Event.TheVariants.{CreateMap, Load, Begin, HostUpdate, HostLookup, Unload, DropMap, Visit};
@@ -167,6 +167,21 @@ impl Host {
             return Some(Reply::Refused(Fault::BadTenant));
         }
         self.tenants[index].make_steps(&mut self.memory, tenant, limit)
+    }
+
+    /// Makes a whole run of a tenant's loaded program on a context, from its beginning to its end, as `begin` and then `make_steps`
+    /// without a limit: the reply is that to its last step, or what refuses its beginning.
+    #[inline(always)]
+    pub fn run(&mut self, tenant: u32, program: u32, context: &[u8]) -> Reply
+        ensures { (x : System) → StandsForSystem self.old x
+            → (next : System) × StandsForSystem self.new next × RunHappens x tenant program context.now result next }
+    {
+        self.memory.facts();
+        let index = tenant as usize;
+        if index >= self.tenants.len() {
+            return Reply::Refused(Fault::BadTenant);
+        }
+        self.tenants[index].run(&mut self.memory, tenant, program, context)
     }
 
     /// The shape of a tenant's map, if it has one of this number.

@@ -6,6 +6,7 @@ mod host;
 mod reply;
 mod tenant;
 mod tenant_event;
+mod whole_run;
 
 pub use host::{Host, each_state_begins, into_reply, lists_join};
 pub use host_types::{Bytes, Event};

@@ -169,7 +169,7 @@ impl Tenant {
 
     /// Opens a run of a program, with the frames that it may need.
     #[inline(always)]
-    fn begin(
+    pub(crate) fn begin(
         &mut self,
         memory: &mut Memory,
         number: u32,

@@ -1,22 +1,19 @@
 -- What a call of the library does to a system, by events and their replies.
-use Rattle.std.specs.Prelude.{◌≡◌, ◌≢◌, ◌⊎◌, ℕ, suc, zero, List, Option, Some, unwrap_or}
+use Rattle.std.specs.Prelude.{◌≡◌, ℕ, suc, zero, List, Option, unwrap_or}
 use Rattle.host_types.specs.declared.event.Event.{Event}
-use Rattle.host_types.specs.declared.event.Event.TheVariants.{Begin, Visit, Counters}
+use Rattle.host_types.specs.declared.event.Event.TheVariants.{Visit, Counters}
 use Rattle.host_core.specs.declared.reply.Reply.{Reply}
-use Rattle.host_core.specs.declared.reply.Reply.TheVariants.{Begun, Stepped}
+use Rattle.host_core.specs.declared.reply.Reply.TheVariants.{Stepped}
 use Rattle.host_core.specs.World.{System, IsCovered}
-use Rattle.host_core.specs.Happens.{Happens, IsPromised, StepsHappen}
+use Rattle.host_core.specs.Happens.{Happens, IsPromised, RunHappens, StepsHappen}
 
 -- an event happens in a system, keeps what is promised of it, and leaves frames for all open runs
 abbrev pub Serves : Event → Reply → System → System → Type 0
 Serves event reply x x' = Happens x event reply x' × IsPromised x event reply x' × IsCovered x'
 
--- A run of a program on a context, from its beginning to its end. Where it isn't begun, that is the reply; else the reply is that to its last
--- step. A run makes fewer than 2^32 steps.
+-- a run of a program on a context, from its beginning to its end
 abbrev pub RunsWhole : ℕ → ℕ → List ℕ → Reply → System → System → Type 0
-RunsWhole t k context reply x x' =
-    ((reply ≢ Begun) × Serves (Begin t k context) reply x x')
-    ⊎ ((begun : System) × Serves (Begin t k context) Begun x begun × StepsHappen begun t 4294967296 (Some reply) x')
+RunsWhole t k context reply x x' = RunHappens x t k context reply x'
 
 -- steps of a tenant's open run, up to a limit: the reply to the last one, or that the run goes on
 abbrev pub Steps : ℕ → ℕ → Reply → System → System → Type 0

@@ -1,7 +1,6 @@
 use Rattle.std.proofs.Common.{◌≡◌, ◌<◌, ◌≤◌, ◌+◌, if◌then◌else◌, Some, None, sym, ap, refl, subst, rules, arith}
-use Rattle.host_types.specs.declared.fault.Fault.TheVariants.{NoRun}
 use Rattle.page_table.specs.State.{part}
-use Rattle.host_core.specs.declared.reply.Reply.TheVariants.{Ended, Refused}
+use Rattle.host_core.specs.declared.reply.Reply.TheVariants.{Ended}
 use Rattle.host_core.specs.HostView.{TenantView, HasMadeSteps, IsKept, steps_of}
 use Rattle.host_core.specs.Batches.{IsUnderWayAt}
 use Rattle.host_core.proofs.Stepping.{made-no_run, made-steps, made-last_step, advanced-some, under-way-kept, kept-open, made-open, steps-open}
