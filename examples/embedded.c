@@ -25,10 +25,10 @@ int main(void)
     struct bpf_host_refused why = {0, 0, 0};
     struct bpf_host_run run = {0, 0};
     uint32_t map, table, program;
-    if (bpf_host_new(64, 1, &options, &host) == 0 &&                            /* 64 frames of 4 KiB, 1 tenant; one thread at a time */
-        bpf_host_create_map(&host, 0, 8, 4, true, &map, &why) == 0 &&           /* tenant 0's map 0: 4 values of 8 bytes, mergeable */
+    if (bpf_host_new(64, 1, &options, &host) == 0 &&                            /* 64 frames of 4 KiB, 1 tenant */
+        bpf_host_create_map(&host, 0, 8, 4, true, &map, &why) == 0 &&           /* map 0: 4 values of 8 bytes */
         bpf_host_create_map(&host, 0, 32, 1, true, &table, &why) == 0 && bpf_host_update(&host, 0, table, 0, weights, 32, &why) == 0 &&
-        bpf_host_load(&host, 0, text, sizeof text, 64, &program, &why) == 0 &&  /* contexts of 64 bytes */
+        bpf_host_load(&host, 0, text, sizeof text, 64, &program, &why) == 0 &&
         bpf_host_run(&host, 0, program, packet, 64, &run, &why) == 0)
         printf("%llu\n", (unsigned long long)run.ret);
     else

@@ -60,16 +60,16 @@ walks_together t (suc limit) x y x' y' reply other agree (next, (made, (served, 
 
 runs_together : (t k : ℕ) (context : List ℕ) (x y x' y' : System) (reply other : Reply) → AgreeOn t x y
     → RunsWhole t k context reply x x' → RunsWhole t k context other y y' → Alike t reply other x' y'
-runs_together t k context x y x' y' reply other agree (inl one) (inl two) = event_together t (Begin t k context) x y x' y' reply other (own_name t) agree one.1 two.1
+runs_together t k context x y x' y' reply other agree (inl one) (inl two) = event_together t (Begin t k context) x y x' y' reply other (own_name t) agree (one.1, one.2, one.3) (two.1, two.2, two.3)
 runs_together t k context x y x' y' reply other agree (inl one) (inr (begun, served, steps)) =
-    cases (event_together t (Begin t k context) x y x' begun reply Begun (own_name t) agree one.1 served)
+    cases (event_together t (Begin t k context) x y x' begun reply Begun (own_name t) agree (one.1, one.2, one.3) served)
   where
     cases : Alike t reply Begun x' begun → Alike t reply other x' y'
     cases (inl scarce) = inl scarce
     cases (inr (inl scarce)) = absurd (cc (scarce))
     cases (inr (inr same)) = absurd (one.0 same.0)
 runs_together t k context x y x' y' reply other agree (inr (begun, served, steps)) (inl two) =
-    cases (event_together t (Begin t k context) x y begun y' Begun other (own_name t) agree served two.1)
+    cases (event_together t (Begin t k context) x y begun y' Begun other (own_name t) agree served (two.1, two.2, two.3))
   where
     cases : Alike t Begun other begun y' → Alike t reply other x' y'
     cases (inl scarce) = absurd (cc (scarce))

@@ -18,7 +18,7 @@ walk_unnoticed t u (suc limit) reply x x' other (next, (made, (served, inr goes)
     walk_unnoticed t u limit reply next x' other goes.1 ∙ unnoticed t x next (Step u) made other served.0
 
 run_unnoticed : (t u k : ℕ) (context : List ℕ) (reply : Reply) (x x' : System) → names_tenant t (Some u) ≡ false → RunsWhole u k context reply x x' → AgreeOn t x' x
-run_unnoticed t u k context reply x x' other (inl refused) = unnoticed t x x' (Begin u k context) reply other refused.1.0
+run_unnoticed t u k context reply x x' other (inl refused) = unnoticed t x x' (Begin u k context) reply other refused.1
 run_unnoticed t u k context reply x x' other (inr (begun, served, steps)) =
     walk_unnoticed t u 4294967296 reply begun x' other (steps_walk u 4294967296 (Some reply) begun x' steps)
     ∙ unnoticed t x begun (Begin u k context) Begun other served.0

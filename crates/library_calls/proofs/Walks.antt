@@ -5,7 +5,7 @@ use Rattle.host_core.specs.declared.reply.Reply.{Reply}
 use Rattle.host_core.specs.declared.reply.Reply.TheVariants.{Stepped}
 use Rattle.host_core.specs.World.{System}
 use Rattle.host_core.specs.Happens.{AllHappen, StepsHappen}
-use Rattle.library_calls.specs.Calls.{Serves, Steps}
+use Rattle.library_calls.specs.Calls.{Serves}
 
 -- steps up to a limit: the run goes on after each but the last, to which the reply is another one
 abbrev pub Walks : ℕ → ℕ → Reply → System → System → Type 0
