@@ -9,7 +9,7 @@
 #include <stdio.h>
 
 static const uint8_t text[] = {
-#include "weights.inc" /* bpf_object weights.o --context 64 --hex | xxd -r -p | xxd -i > weights.inc */
+#include "weights.inc" /* bpf_object weights.o --context 64 --hex | xxd -r -p | xxd -i */
 };
 
 /* The constant table, as the events of `bpf_object` have it: eight numbers of 32 bits. */

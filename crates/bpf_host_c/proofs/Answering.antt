@@ -1,19 +1,15 @@
--- Answers of an open handle, and a whole run.
-use Rattle.std.proofs.Common.{◌≡◌, ◌≢◌, ◌==◌, ℕ, List, length, if◌then◌else◌, true, false, inl, inr, Option, Some, None, Result, Ok, Err, IfErr, sym, ap, ◌∙◌, refl, subst}
-use lib.Dec.{T}
-use Rattle.host_types.specs.declared.event.Event.TheVariants.{Begin}
+-- Answers of an open handle.
+use Rattle.std.proofs.Common.{◌≡◌, ◌≢◌, ◌==◌, ℕ, List, length, if◌then◌else◌, Option, Some, Result, Ok, Err, IfErr, sym, ap, ◌∙◌, subst}
 use Rattle.host_types.specs.declared.fault.Fault.{Fault}
 use Rattle.host_types.specs.declared.fault.Fault.TheVariants.{OutOfMemory}
 use Rattle.host_types.specs.Refusals.{fault_number}
 use Rattle.host_core.specs.declared.reply.Reply.{Reply}
 use Rattle.host_core.specs.declared.reply.Reply.TheVariants.{Map, Program, Begun, Stepped, Ended, Visited, Done, Value, Counters, Refused}
 use Rattle.host_core.specs.World.{System}
-use Rattle.host_core.specs.Happens.{StepsHappen}
 use Rattle.host_core.specs.HostView.{HostView, IsCopied}
-use Rattle.bpf_host_c.specs.declared.answer.Answer.{Answer}
 use Rattle.bpf_host_c.specs.declared.answer.Answer.TheVariants.{Replied}
-use Rattle.bpf_host_c.specs.Answered.{HasAnswer, Goes, Serves, RunsWhole}
-use Rattle.bpf_host_c.specs.Codes.{copied_code, is_begun, lookup_code, value_copied}
+use Rattle.bpf_host_c.specs.Answered.{HasAnswer, Goes}
+use Rattle.bpf_host_c.specs.Codes.{copied_code, lookup_code, value_copied}
 
 module _ (Happening : Reply → System → System → Type 0) where
   -- what happened to the host that was taken out of a handle and put back is what the reply answers

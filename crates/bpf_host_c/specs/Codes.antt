@@ -5,8 +5,7 @@ use Rattle.host_types.specs.declared.fault.Fault.TheVariants.{Program as Unaccep
 use Rattle.host_types.specs.Refusals.{fault_number}
 use Rattle.host_types.specs.declared.options.Opt.{Opt}
 use Rattle.host_types.specs.declared.options.Opt.TheVariants.{PagesToScan, Run, UseZeroPages, MaxPageSharing}
-use Rattle.host_core.specs.declared.reply.Reply.{Reply}
-use Rattle.host_core.specs.declared.reply.Reply.TheVariants.{Map, Program, Begun, Stepped, Ended, Value, Counters as AreCounters, Refused}
+use Rattle.host_core.specs.declared.reply.Reply.TheVariants.{Map, Program, Stepped, Ended, Value, Counters as AreCounters, Refused}
 use Rattle.bpf_host_c.specs.declared.answer.Answer.{Answer}
 use Rattle.bpf_host_c.specs.declared.answer.Answer.TheVariants.{Closed, Replied}
 use Rattle.bpf_host_c.specs.declared.structs.BpfHostCounters.{BpfHostCounters}

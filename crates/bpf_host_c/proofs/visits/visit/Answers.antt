@@ -1,5 +1,4 @@
 use Rattle.std.proofs.Common.{◌≡◌, ◌+◌, suc, refl, subst, arith}
-use Rattle.host_core.specs.World.{System}
 use Rattle.bpf_host_c.specs.Answered.{Visits}
 use Rattle.bpf_host_c.proofs.visits.visit.Goals as goal
 

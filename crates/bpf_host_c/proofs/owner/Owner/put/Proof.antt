@@ -1,11 +1,9 @@
 -- `put` gives the pointer what it is to own.
-use Rattle.std.proofs.Common.{◌≡◌, List, [], ◌∷◌, ◌++◌, refl, sym, ap, ◌∙◌, subst, IsSome, Option, Some, None}
+use Rattle.std.proofs.Common.{◌≡◌, List, [], ◌∷◌, ◌++◌, refl, sym, subst, Some}
 use mir.Val.{Val, vptr, vunit}
-use mir.Raw.{raw as bare}
-use base.Logic.{SProp, ent, emp, never, id⊢, fst∗}
+use base.Logic.{SProp, ent, emp, id⊢}
 use base.Fml.{ftrue, flft}
 use prog.Wp.{WpFn}
-use types.Logic.{sem}
 use types.Kit.{‵, raw, ◌⊛◌, ◌$◌, ◌∵◌, !, qed, by, move, keep, drop, split, join, fsplit, fjoin, suffices, use0, rewrite, feq_i}
 use types.Run.{stop, fld, of_opd, unit_lit, assigns, returns, enter}
 use types.ByLocal.{alloc_all, pass_all, free_all, look_at, get, get_in, through, sets}
@@ -16,21 +14,16 @@ use denote.Exit.{yes}
 use denote.Laws.{shows}
 use denote.RattleType.{RattleType, owns}
 use denote.Signature.{types_at, plain}
-use denote.Memory.{cell_at, lone}
+use denote.Memory.{cell_at}
 use base.Fraction.{full_share}
-use denote.RawPtr.{Ptr, block_ptr, null_ptr, in_a_block}
-use denote.Steps.{nothing, heard, opens, closes, peeks}
-use denote.Param.{layout}
+use denote.RawPtr.{block_ptr}
+use denote.Steps.{nothing, opens, closes, peeks}
 use denote.Triple.Walked.{Stays, stay_dropped, stay_ref, walk_of, Goes-dropped, Goes-ref}
-use Rattle.core.proofs.alloc.Calls.{Goes-blank}
 use Rattle.std.specs.contracts.alloc.Global as heap
 use Rattle.std.proofs.alloc.Global.TheLaws as heap_laws
 use Rattle.std.specs.contracts.impls.GlobalAllocator.TheImpl.{ghosts}
 use Rattle.std.proofs.raw_atomic.Walks.{proved_at, leaves}
-use Rattle.std_alloc.specs.Box.Ownership.{box_owns}
-use Rattle.host_core.specs.HostView.{HostView}
 use Rattle.host_core.specs.contracts.host.Host as host
-use Rattle.bpf_host_c.specs.Owned.{owned}
 use Rattle.bpf_host_c.proofs.Values.{both, lone_struct, Loose, loose_good, loose_out}
 use Rattle.bpf_host_c.proofs.Pointers.{pointer_in}
 use Rattle.bpf_host_c.specs.contracts.owner.Owner.{the_row as R}
