@@ -9,7 +9,7 @@ pub use Rattle.std.proofs.lemmas.List.{set_past, get_or-set_same, get_or-set_oth
 pub use Rattle.std.proofs.lemmas.List.Elements.{All-tail, filter-append, All-nil, All-cons, All-head, All-append, All-take, All-drop, All-filter, filter_passes}
 pub use Rattle.std.proofs.lemmas.List.Folds.{sum_by-replicate}
 pub use Rattle.std.proofs.lemmas.List.Kept.{AllPairs-cons, AllPairs-filter}
-pub use Rattle.std.proofs.lemmas.List.Sums.{sum_by_more, sum_by-set, sum_by-cons, length-filter, sum_by-append, sum_by-le, get_or-le-sum_by, sum_by_push}
+pub use Rattle.std.proofs.lemmas.List.Sums.{sum_by_more, sum_by-set, sum_by-cons, length-filter, sum_by-append, sum_by-take-drop, sum_by-le, get_or-le-sum_by, sum_by_push}
 pub use Rattle.std.proofs.lemmas.Map.Text.{is_eq-slice_cmp}
 pub use Rattle.std.proofs.lemmas.Map.Views.{any-filter_same}
 pub use Rattle.std.proofs.lemmas.Slice.Eq.{bytes_eq-Decides}

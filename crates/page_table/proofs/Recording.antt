@@ -1,5 +1,5 @@
 -- Frames reserved for open runs, and what the maps of a memory meet.
-use Rattle.page_table.proofs.Base.{◌≡◌, ◌∙◌, ℕ, ◌+◌, ◌-◌, ◌*◌, ◌<◌, ◌≤◌, List, length, sum_by, slice_index_or, slice_set, Option, arith, get_or-set_same, get_or-set_other, sum_by-set, nat_tests, zero, suc, [], ◌∷◌, map, drop, Some, None, IfSome, option_map, is_none, position, refl, All, position_or_len, get_or_past, get_or-take, get_or-drop, concat, length-take-le, All-nil, All-cons, All-head, All-tail, All-append, All-take, All-drop, Shape, Pass, Tenant, MemoryState, part, unreserved_tenant, free_of, have_of, OtherTenantsUnchanged, TableState, contents_of, maps_of, used_by, view_of, IsMemory, part_of, FlatMap, FlatMaps, map_at, map_index_of, IsFlatMap, IsPage, page_at, Entry, free_number, flat_of, entry_content, ArePages, ArePagesOf, AreMaps}
+use Rattle.page_table.proofs.Base.{get_or_default, ◌≡◌, ◌∙◌, ℕ, ◌+◌, ◌-◌, ◌*◌, ◌<◌, ◌≤◌, List, length, sum_by, slice_index_or, slice_set, Option, arith, get_or-set_same, get_or-set_other, sum_by-set, nat_tests, zero, suc, [], ◌∷◌, map, drop, Some, None, IfSome, option_map, is_none, position, refl, All, position_or_len, get_or_past, get_or-take, get_or-drop, concat, length-take-le, All-nil, All-cons, All-head, All-tail, All-append, All-take, All-drop, Shape, Pass, Tenant, MemoryState, part, unreserved_tenant, free_of, have_of, OtherTenantsUnchanged, TableState, contents_of, maps_of, used_by, view_of, IsMemory, part_of, FlatMap, FlatMaps, map_at, map_index_of, IsFlatMap, IsPage, page_at, Entry, free_number, flat_of, entry_content, ArePages, ArePagesOf, AreMaps}
 use Rattle.std.proofs.Common.{length-set}
 use Rattle.page_table.proofs.Maps.{length-maps_of}
 use Rattle.page_table.proofs.Entries.{free_is}
@@ -133,6 +133,12 @@ pub record Records (old new : MemoryState) (table : TableState) (shapes : List (
   pub others : OtherTenantsUnchanged t old new
   pub have : have_of new + kept.reserve ≡ have_of old + (part old t).reserve
   pub all : new ≡ record old { tenants = slice_set old.tenants t kept }
+
+-- what is recorded of a tenant that is there is what its part says
+pub recorded_is : (table : TableState) (shapes : List (Option Shape)) (tenants : List Tenant) (pass : Pass) (reserved : ℕ) → IsMemory table shapes tenants reserved
+    → (now : MemoryState) → view_of table shapes tenants pass ≡ now → (t : ℕ) (found : Tenant) → length (part now t).maps ≡ 8 → found ≡ slice_index_or tenants t found → found.reserve ≡ (part now t).reserve
+unfolding view_of part
+recorded_is table shapes tenants pass reserved is now same t found eight at = grind (arith, nat_tests, tenant_there table shapes tenants pass reserved is t, get_or_default)
 
 pub records : (table : TableState) (shapes : List (Option Shape)) (tenants : List Tenant) (pass : Pass) (reserved : ℕ) → IsMemory table shapes tenants reserved
     → (now : MemoryState) → view_of table shapes tenants pass ≡ now → (t before : ℕ) (kept : Tenant)

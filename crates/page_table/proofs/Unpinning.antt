@@ -1,5 +1,5 @@
 -- What a memory says where the pins of one tenant changed.
-use Rattle.page_table.proofs.Base.{◌≡◌, ◌≢◌, ◌∙◌, ◌⊎◌, ℕ, ◌+◌, ◌*◌, ◌<◌, ◌≤◌, Bool, true, false, List, length, replicate, slice_index_or, Option, refl, sym, ap, arith, length-replicate, length-map, nat_tests, ext_get_or, ordered, ◌-◌, ◌/◌, ◌%◌, if◌then◌else◌, [], ◌∷◌, ◌++◌, take, drop, slice_set, get_or-set_same, get_or-set_other, length-set, take-replicate, drop-replicate, get_or-replicate, take-append_seam, sum_by-cons, sum_by-set, sum_by-replicate, Shape, part_of, with_part, map_index_of, PinsFit, PageState, length-part_of, length-with_part, with_part-whole, Pass, Tenant, OtherTenantsUnchanged, with_pins, part, TableState, states_of, view_of, IsMemory, part-with_part_same, with_part-same, pinned_among, ArePinsOf}
+use Rattle.page_table.proofs.Base.{drop-drop, sum_by-append, sum_by-take-drop, ◌≡◌, ◌≢◌, ◌∙◌, ◌⊎◌, ℕ, ◌+◌, ◌*◌, ◌<◌, ◌≤◌, Bool, true, false, List, length, replicate, slice_index_or, Option, refl, sym, ap, arith, length-replicate, length-map, nat_tests, ext_get_or, ordered, ◌-◌, ◌/◌, ◌%◌, if◌then◌else◌, [], ◌∷◌, ◌++◌, take, drop, slice_set, get_or-set_same, get_or-set_other, length-set, take-replicate, drop-replicate, get_or-replicate, take-append_seam, sum_by-cons, sum_by-set, sum_by-replicate, Shape, part_of, with_part, map_index_of, PinsFit, PageState, length-part_of, length-with_part, with_part-whole, Pass, Tenant, OtherTenantsUnchanged, with_pins, part, TableState, states_of, view_of, IsMemory, part-with_part_same, with_part-same, pinned_among, ArePinsOf}
 use Rattle.page_table.proofs.Creating.{length-contents, filled_at, others-filled}
 use Rattle.page_table.proofs.Waiters.{pinned_if}
 use Rattle.page_table.proofs.Maps.{part_of-set_other, part-at, length-part, part_of-set_same}
@@ -82,15 +82,58 @@ unfolding part_of
 new-part maps k less = rw (drop-replicate (k * 256) (maps * 256) false, take-replicate 256 (maps * 256 - k * 256) false (omega (arith, less))) (none-pinned 256)
 
 -- the memory without a map
-pub pins_new : (maps : ℕ) → ArePinsOf (replicate (maps * 256) false) (replicate maps 0)
-pins_new maps = grind (arith, nat_tests, length-replicate, get_or-replicate, new-part maps)
+pub pins_new : (maps : ℕ) → maps ≤ 128 → ArePinsOf (replicate (maps * 256) false) (replicate maps 0) 0
+pins_new maps few =
+    let long = length-replicate (maps * 256) false in
+    record {
+      maps = grind (arith, length-replicate);
+      each = grind (arith, nat_tests, length-replicate, get_or-replicate, new-part maps);
+      all = sym (none-pinned (maps * 256));
+      few = omega (arith, long, few);
+    }
 
--- the pins of one map changed, and its number with them
-pins-changed : (pins now : List Bool) (numbers : List ℕ) (k n : ℕ) → ArePinsOf pins numbers → k < length numbers → length now ≡ length pins
-    → ((j : ℕ) → j ≢ k → part_of now (j * 256) 256 ≡ part_of pins (j * 256) 256) → n ≡ pinned_among (part_of now (k * 256) 256) → ArePinsOf now (slice_set numbers k n)
-pins-changed pins now numbers k n are inside long others here = grind (arith, nat_tests, length-set, get_or-set_same, get_or-set_other)
+-- the pins of one map changed, and its number and the total with them
+pins-changed : (pins now : List Bool) (numbers : List ℕ) (total more k n : ℕ) → ArePinsOf pins numbers total → k < length numbers → length now ≡ length pins
+    → ((j : ℕ) → j ≢ k → part_of now (j * 256) 256 ≡ part_of pins (j * 256) 256) → n ≡ pinned_among (part_of now (k * 256) 256) → more ≡ pinned_among now → ArePinsOf now (slice_set numbers k n) more
+pins-changed pins now numbers total more k n are inside long others here all =
+    record {
+      maps = grind (arith, length-set, are.maps);
+      each = grind (arith, nat_tests, length-set, get_or-set_same, get_or-set_other);
+      all = all;
+      few = omega (arith, long, are.few);
+    }
 
-module _ (pins : List Bool) (numbers : List ℕ) (are : ArePinsOf pins numbers) where
+-- what is pinned before a part, in it, and after it
+pinned-split : (pins : List Bool) (at n : ℕ) → at + n ≤ length pins → pinned_among pins ≡ pinned_among (take at pins) + (pinned_among (part_of pins at n) + pinned_among (drop (at + n) pins))
+unfolding part_of
+pinned-split pins at n inside =
+    let outer = sum_by-take-drop one_if pins at in
+    let inner = sum_by-take-drop one_if (drop at pins) n in
+    let later = ap pinned_among (drop-drop n at pins) in
+    omega (arith, outer, inner, later)
+
+-- what is left of them without a part
+pinned-without : (pins : List Bool) (at n : ℕ) → at + n ≤ length pins → pinned_among (with_part pins at (replicate n false)) + pinned_among (part_of pins at n) ≡ pinned_among pins
+unfolding with_part
+pinned-without pins at n inside =
+    let split = pinned-split pins at n inside in
+    let later = drop (at + length (replicate n false)) pins in
+    let first : pinned_among (with_part pins at (replicate n false)) ≡ pinned_among (take at pins ++ replicate n false) + pinned_among later = sum_by-append one_if (take at pins ++ replicate n false) later in
+    let second = sum_by-append one_if (take at pins) (replicate n false) in
+    let none = none-pinned n in
+    let long = ap (λ (k : ℕ). pinned_among (drop (at + k) pins)) (length-replicate n false) in
+    omega (arith, split, first, second, none, long)
+
+-- where none is pinned, none has to be released
+pub none-released : (pins : List Bool) (at n : ℕ) → pinned_among pins ≡ 0 → at + n ≤ length pins → with_part pins at (replicate n false) ≡ pins
+none-released pins at n none inside =
+    let long = length-part_of pins at n inside in
+    let split = pinned-split pins at n inside in
+    let own = all-false (part_of pins at n) (omega (arith, split, none)) in
+    let free : part_of pins at n ≡ replicate n false = own ∙ ap (λ (k : ℕ). replicate k false) long in
+    ap (with_part pins at) (sym free) ∙ with_part-same pins at n inside
+
+module _ (pins : List Bool) (numbers : List ℕ) (total : ℕ) (are : ArePinsOf pins numbers total) where
   -- one page more is pinned
   module _ (k n : ℕ) (small : n < 256) (inside : k * 256 + n < length pins) (free : slice_index_or pins (k * 256 + n) false ≡ false) where
     here : k < length numbers
@@ -105,11 +148,14 @@ module _ (pins : List Bool) (numbers : List ℕ) (are : ArePinsOf pins numbers) 
     was : slice_index_or owned n false ≡ false
     was = grind (arith, nat_tests, part-at pins (k * 256) 256 n false)
 
-    pub pins-more : ArePinsOf (slice_set pins (k * 256 + n) true) (slice_set numbers k (slice_index_or numbers k 0 + 1))
-    pins-more = grind (arith, nat_tests, pins-changed, here, length-set, part_of-set_other, long, sum_by-set, was, part_of-set_same)
+    all-more : total + 1 ≡ pinned_among (slice_set pins (k * 256 + n) true)
+    all-more = grind (arith, are.all, sum_by-set, free, inside)
+
+    pub pins-more : ArePinsOf (slice_set pins (k * 256 + n) true) (slice_set numbers k (slice_index_or numbers k 0 + 1)) (total + 1)
+    pins-more = grind (arith, nat_tests, pins-changed, here, length-set, part_of-set_other, long, sum_by-set, was, part_of-set_same, all-more)
 
   -- the same by the page's index
-  pub pins-more-at : (page_index now : ℕ) → page_index < length pins → slice_index_or pins page_index false ≡ false → now ≡ slice_index_or numbers (page_index / 256) 0 → ArePinsOf (slice_set pins page_index true) (slice_set numbers (page_index / 256) (now + 1))
+  pub pins-more-at : (page_index now : ℕ) → page_index < length pins → slice_index_or pins page_index false ≡ false → now ≡ slice_index_or numbers (page_index / 256) 0 → ArePinsOf (slice_set pins page_index true) (slice_set numbers (page_index / 256) (now + 1)) (total + 1)
   pins-more-at page_index now inside free answer =
       let at : page_index ≡ page_index / 256 * 256 + page_index % 256 = omega arith in
       grind (arith, pins-more (page_index / 256) (page_index % 256), ap (λ (i : ℕ). slice_index_or pins i false) at, ap (λ (i : ℕ). slice_set pins i true) at)
@@ -123,11 +169,21 @@ module _ (pins : List Bool) (numbers : List ℕ) (are : ArePinsOf pins numbers) 
     pub pins-none : slice_index_or numbers k 0 ≡ 0 → with_part pins (k * 256) (replicate 256 false) ≡ pins
     pins-none none = grind (arith, whole, length-part_of pins (k * 256) 256, all-false (part_of pins (k * 256) 256), are.each k inside, with_part-same pins (k * 256) 256)
 
-    pub pins-cleared : ArePinsOf (with_part pins (k * 256) (replicate 256 false)) (slice_set numbers k 0)
+    others : pinned_among (with_part pins (k * 256) (replicate 256 false)) + slice_index_or numbers k 0 ≡ total
+    others =
+        let without = pinned-without pins (k * 256) 256 whole in
+        omega (arith, without, are.each k inside, are.all)
+
+    -- the total has them
+    pub pins-some : slice_index_or numbers k 0 ≤ total
+    pins-some = let l = others in omega (arith, l)
+
+    pub pins-cleared : ArePinsOf (with_part pins (k * 256) (replicate 256 false)) (slice_set numbers k 0) (total - slice_index_or numbers k 0)
     pins-cleared =
-        pins-changed pins (with_part pins (k * 256) (replicate 256 false)) numbers k 0 are inside (length-with_part pins (k * 256) (replicate 256 false) whole)
+        pins-changed pins (with_part pins (k * 256) (replicate 256 false)) numbers total (total - slice_index_or numbers k 0) k 0 are inside (length-with_part pins (k * 256) (replicate 256 false) whole)
         (λ j ne. others-filled pins (k * 256) k 0 256 j 256 false (omega arith) (omega arith) whole ne)
         (sym (none-pinned 256) ∙ sym (ap pinned_among (part-with_part_same pins (k * 256) (replicate 256 false) 256 refl whole)))
+        (let l = others in omega (arith, l))
 
 -- another map more has no pinned pages
 pub filled-more : (pins : List Bool) (first n : ℕ) → first * 256 + n * 256 + 256 ≤ length pins

@@ -9,12 +9,13 @@ use std::alloc::{AllocError, Global};
 use std::marker::Model;
 
 /// For each index whether its page is pinned: an open run took it out of a group or off the frame of zeros,
-/// and it isn't merged before the run's end. How many pages of each map are pinned is kept beside it.
+/// and it isn't merged before the run's end. How many pages of each map are pinned is kept beside it, and how many of all.
 #[derive(Drop)]
 pub(crate) struct Pins {
     page_indices: Vec<bool>,
     /// By the maps' indices.
     numbers: Vec<u32>,
+    total: u32,
 }
 
 impl Model for Pins {
@@ -25,7 +26,7 @@ impl Model for Pins {
 
     ghost view = { λ pins. pins.page_indices.items };
 
-    ghost invariant = { λ pins. ArePinsOf pins.page_indices.items pins.numbers.items };
+    ghost invariant = { λ pins. ArePinsOf pins.page_indices.items pins.numbers.items pins.total };
 }
 
 impl Pins {
@@ -38,6 +39,7 @@ impl Pins {
         Ok(Pins {
             page_indices: vec![in alloc; false; maps as usize * MAX_PAGES]?,
             numbers: vec![in alloc; 0; maps as usize]?,
+            total: 0,
         })
     }
 
@@ -75,6 +77,7 @@ impl Pins {
         if !self.page_indices[page_index] {
             self.page_indices[page_index] = true;
             self.numbers[page_index / MAX_PAGES] += 1;
+            self.total += 1;
         }
     }
 
@@ -94,12 +97,26 @@ impl Pins {
         requires few { index < 128 }
         ensures { self.new ≡ with_part self.old (index * 256) (replicate 256 false) }
     {
+        self.total -= self.numbers[index];
         clear_map(&mut self.page_indices, index * MAX_PAGES);
         self.numbers[index] = 0;
     }
 
-    /// No page of the eight maps from one on is pinned any more.
+    /// No page of the eight maps from one on is pinned any more. Most runs pin none: then one number is looked at.
+    #[inline(always)]
     pub(crate) fn release_all(&mut self, first: usize)
+        requires maps { first * 256 + 2048 ≤ length self.old }
+        requires few { first + 8 ≤ 128 }
+        ensures { self.new ≡ with_part self.old (first * 256) (replicate 2048 false) }
+    {
+        if self.total > 0 {
+            self.release_each(first);
+        }
+    }
+
+    /// No page of the eight maps from one on is pinned any more, where some page is.
+    #[inline(never)]
+    fn release_each(&mut self, first: usize)
         requires maps { first * 256 + 2048 ≤ length self.old }
         requires few { first + 8 ≤ 128 }
         ensures { self.new ≡ with_part self.old (first * 256) (replicate 2048 false) }

@@ -83,7 +83,9 @@ impl Memory {
     }
 
     /// Ends a tenant's run: no frame is reserved for it, and none of the tenant's pages is pinned. The
-    /// call looks at the pages of maps that have pinned ones, and at no others.
+    /// call looks at the pages of maps that have pinned ones, and at no others. It is part of each caller, since a short run is
+    /// mostly its beginning and its end.
+    #[inline(always)]
     pub fn end_run(&mut self, tenant: u32)
         requires { length (part self.old tenant).maps ≡ 8 }
         ensures ended { part self.new tenant ≡ without_run (part self.old tenant) }
@@ -107,9 +109,10 @@ impl Memory {
         ensures have { have_of self.new + kept.reserve ≡ have_of self.old + (part self.old tenant).reserve }
         ensures all { self.new ≡ record self.old { tenants = slice_set self.old.tenants tenant kept } }
     {
-        let before = self.reserve(tenant);
-        self.reserved = self.reserved - before + kept.reserve;
-        self.tenants[tenant as usize] = kept;
+        let recorded = &mut self.tenants[tenant as usize];
+        self.reserved = self.reserved - recorded.reserve + kept.reserve;
+        recorded.reserve = kept.reserve;
+        recorded.running = kept.running;
     }
 
     /// No page of a tenant is pinned any more.
