@@ -28,34 +28,21 @@ pub fn needed(program: &Verified, memory: &Memory, tenant: u32, slot: u32) -> u3
 /// The smaller of what a run's stores may take in all and of how many pages the rest of it may take out: those that
 /// aren't pinned of the maps that it may write. Once these are as many, no further map is looked at.
 #[inline(never)]
+#[tactic(auto, using(crate::proofs::Counting::unpinned_small))]
 fn capped(program: &Verified, memory: &Memory, tenant: u32, slot: u32, total: u32) -> u32
     ensures { result ≡ capped total
         (unpinned_in (writes_from program.now slot) (pages_of_map (part memory.now tenant)) (part memory.now tenant).pins 0 8) }
 {
     let mut pages = 0;
     for map in 0..MAX_MAPS as MapNo {
-        pages += may_take_out(program, memory, tenant, slot, map);
-        if pages >= total {
-            return total;
+        if program.writes(slot, map) {
+            pages += memory.unpinned(tenant, map);
+            if pages >= total {
+                return total;
+            }
         }
     }
     pages
-}
-
-/// How many pages of a tenant's map the rest of a run may take out: those that aren't pinned, where it may write
-/// the map.
-#[tactic(auto, using(crate::proofs::Counting::unpinned_small))]
-fn may_take_out(program: &Verified, memory: &Memory, tenant: u32, slot: u32, map: MapNo) -> u32
-    requires { map < 8 }
-    ensures number { result ≡ (if writes_from program.now slot map
-        then unpinned_from (part memory.now tenant).pins (map * 256) (pages_of_map (part memory.now tenant) map) else 0) }
-    ensures few { result ≤ 2048 }
-{
-    if program.writes(slot, map) {
-        memory.unpinned(tenant, map)
-    } else {
-        0
-    }
 }
 
 /// How many frames a run of a program may need where no page is pinned, by the shapes that the program has for its

@@ -9,5 +9,5 @@ abbrev pub invariant-loop-map : goal.invariant-loop-map
 invariant-loop-map l = record {
   sum : l.pages ≡ unpinned_in (writes_from l.program l.slot) (pages_of_map (part l.memory l.tenant)) (part l.memory l.tenant).pins 0 l.map;
   few : l.pages ≤ l.map * 2048;
-  below : (l.map ≡ 0) ⊎ (l.pages < l.total);
+  below : (l.pages ≡ 0) ⊎ (l.pages < l.total);
 }
