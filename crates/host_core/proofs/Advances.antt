@@ -35,6 +35,7 @@ use Rattle.tenant_runs.proofs.Roomy.{answered_slot}
 use Rattle.host_core.specs.declared.tenant.OpenRun.{OpenRun as KeptRun}
 use Rattle.host_core.specs.World.{pins_of}
 use Rattle.host_core.specs.Happens.{sharing_after}
+pub use Rattle.host_core.specs.Batches.{IsStarted}
 use Rattle.host_core.specs.Batches.{IsUnderWayAt, HasAdvanced, AreMade, AreMadeFrom, KeepsPins, IsAnswered, went_on, answered, ended, needed_in, part_in, reserved_of}
 use Rattle.host_core.proofs.Instructions.{instructions_before-within}
 
@@ -61,15 +62,6 @@ pub needed_of_part : (v : Accepted) (t : ℕ) (memory : MemoryState) (s : Machin
 needed_of_part v t memory s maps =
     ap (λ (m : FlatMaps). needed_from v (record { maps = m; reserve = 0; running = true; pins = (part memory t).pins }) s.slot) maps
     ∙ ap (λ (pins : List Bool). needed_from v (record { maps = s.memory.maps; reserve = 0; running = true; pins = pins }) s.slot) (pins_of_part memory t)
-
--- The beginning of a batch: what was reserved for the run may be had, so that as much may be had as the rest of it may need.
-pub record IsStarted (v : Accepted) (t : ℕ) (s : MachineState) (before released : MemoryState) : Type 0 where
-  pub sharing : released.sharing ≡ before.sharing
-  pub frames : length released.arena ≡ length before.arena
-  pub eight : length (part released t).maps ≡ 8
-  pub all : reserved_of before ≡ reserved_of released + needed_in v t before.sharing s
-  pub reads : ReadsAs released
-  pub roomy : IsRoomy (maps_of_part t) (HasStoreFrames t) v s released
 
 pub started : (programs : List (Option Accepted)) (kept : KeptRun) (v : Accepted) (s : MachineState) (t : ℕ) (before released : MemoryState) → IsUnderWayAt programs kept v s (part before t) → ReadsAs before → ReadsAs released
     → part released t ≡ with_reserve 0 (part before t) → have_of released + 0 ≡ have_of before + (part before t).reserve → released ≡ with_record before t 0 → IsStarted v t s before released

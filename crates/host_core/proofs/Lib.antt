@@ -13,5 +13,6 @@ pub mod Leaving
 pub mod Advances
 pub mod OneStep
 pub mod Stepping
+pub mod Unreserved
 pub mod Making
 pub mod FoundOpen

@@ -98,8 +98,8 @@ run-few kept tenant s = few kept.run refl
         let most = sized.most in
         omega (arith, within, most, counted, fits, at)
 
--- a run that goes on can't have made 2^32 steps
-pub made-few : (t n : ℕ) (old new : TenantView) (memory : MemoryState) → IsKept t new memory → HasCounted old n None new → 4294967296 ≤ n → ⊥
+-- a run that goes on can't have made 2^32 steps, those before among them
+pub made-few : (t n : ℕ) (old new : TenantView) (memory : MemoryState) → IsKept t new memory → HasCounted old n None new → 4294967296 ≤ steps_of old.run + n → ⊥
 made-few t n old new memory (x, tenant, there, s, stands) counted great =
     let few = run-few new tenant s in
     omega (arith, few, counted, great)

@@ -6,14 +6,17 @@ use Rattle.host_types.specs.Tenant.{TenantPart, AreFlatMaps}
 use Rattle.bpf_decode.specs.Text.{instructions_of}
 use Rattle.page_table.specs.declared.tenant.Tenant.{Tenant as Recorded}
 use Rattle.page_table.specs.Changes.{without_run}
+use Rattle.page_table.specs.Reads.{ReadsAs}
 use Rattle.page_table.specs.State.{MemoryState, part}
 use Rattle.verifier.specs.Verified.{Accepted}
 use Rattle.admission.specs.Reserve.{needed_from}
 use Rattle.interp.specs.declared.need.Need.{Need}
 use Rattle.interp.specs.Needs.{maps_after}
 use Rattle.interp.specs.Machine.{MachineState, Next, Exits, step}
+use Rattle.interp.specs.OnMaps.{IsRoomy}
 use Rattle.interp.specs.StandsFor.{Running, StandsFor, Follows}
 use Rattle.interp.specs.Written.{written}
+use Rattle.tenant_runs.specs.Storing.{maps_of_part, HasStoreFrames}
 use Rattle.host_core.specs.declared.tenant.OpenRun.{OpenRun as KeptRun}
 use Rattle.host_core.specs.World.{pins_of}
 use Rattle.host_core.specs.Happens.{sharing_after}
@@ -46,6 +49,15 @@ part_in v t sharing s =
 -- how many frames are recorded as reserved for open runs
 abbrev pub reserved_of : MemoryState → ℕ
 reserved_of memory = sum_by (λ (tenant : Recorded). tenant.reserve) memory.tenants
+
+-- The beginning of steps in one go: what was reserved for the run may be had, so that as much may be had as the rest of it may need.
+pub record IsStarted (v : Accepted) (t : ℕ) (s : MachineState) (before released : MemoryState) : Type 0 where
+  pub sharing : released.sharing ≡ before.sharing
+  pub frames : length released.arena ≡ length before.arena
+  pub eight : length (part released t).maps ≡ 8
+  pub all : reserved_of before ≡ reserved_of released + needed_in v t before.sharing s
+  pub reads : ReadsAs released
+  pub roomy : IsRoomy (maps_of_part t) (HasStoreFrames t) v s released
 
 -- what other tenants have pinned stays
 abbrev pub KeepsPins : ℕ → Sharing → Sharing → Type 0

@@ -22,23 +22,23 @@ use verifier::{Verified, is_context_size};
 /// A tenant: its eight entries for programs, and its open run, if it has one. Its maps are the memory's.
 #[derive(Drop)]
 pub(crate) struct Tenant {
-    programs: [Option<Verified>; MAX_PROGRAMS],
-    run: TenantRun,
+    pub(crate) programs: [Option<Verified>; MAX_PROGRAMS],
+    pub(crate) run: TenantRun,
 }
 
 /// An open run, and the number of its program.
 #[derive(Drop)]
 pub(crate) struct OpenRun {
-    program: u32,
-    run: Run,
+    pub(crate) program: u32,
+    pub(crate) run: Run,
 }
 
 /// A tenant's open run, if it has one: contracts see an `Option`. A run that ended stays where it is, and the next one takes
 /// its memory, so that to open and to end a run moves nothing.
 #[derive(Drop)]
 pub(crate) struct TenantRun {
-    is_open: bool,
-    latest: OpenRun,
+    pub(crate) is_open: bool,
+    pub(crate) latest: OpenRun,
 }
 
 /// Steps that were made in one go: how many, and the reply to the last one where the run ended with it or it
@@ -67,12 +67,12 @@ impl Model for Tenant {
 }
 
 impl Tenant {
-    ghost use Rattle.std.specs.Prelude.{◌≡◌, ◌≢◌, Some, IsSome, IfErr, ◌<◌, ◌≤◌};
+    ghost use Rattle.std.specs.Prelude.{◌≡◌, ◌≢◌, ◌+◌, Some, IsSome, IfErr, ◌<◌, ◌≤◌};
     ghost use Rattle.host_types.specs.declared.fault.Fault.TheVariants.{OutOfMemory};
     ghost use Rattle.host_types.specs.declared.event.Event.TheVariants.{CreateMap, Load, Begin, Step, HostUpdate, HostLookup, Unload, DropMap};
     ghost use Rattle.host_core.specs.World.{new_tenant};
     ghost use Rattle.host_core.specs.declared.reply.Reply.{Reply as KnownReply};
-    ghost use Rattle.host_core.specs.HostView.{StandsForTenant, IsKept, IsServed, IsAnswered, IsCopied, HasMadeSteps, HasCounted, event_of, reply_of};
+    ghost use Rattle.host_core.specs.HostView.{StandsForTenant, IsKept, IsServed, IsAnswered, IsCopied, HasMadeSteps, HasCounted, event_of, reply_of, steps_of};
 
     pub(crate) fn new(alloc: Global) -> Tenant
         ensures { StandsForTenant result new_tenant }
@@ -318,7 +318,7 @@ impl Tenant {
         requires some { 0 < limit }
         requires kept { IsKept number self.old memory.old }
         ensures steps { HasMadeSteps number self.old memory.old limit result self.new memory.new }
-        ensures ends { 4294967296 ≤ limit → IsSome result }
+        ensures ends { 4294967296 ≤ steps_of self.old.run + limit → IsSome result }
     {
         let mut left = limit;
         while left > 0 {
@@ -410,10 +410,10 @@ impl OpenRun {
     ghost use Rattle.std.specs.Prelude.{◌≡◌, ◌<◌, slice_get, List, Option, Some};
     ghost use Rattle.verifier.specs.Verified.{Accepted};
     ghost use Rattle.interp.specs.Machine.{MachineState};
-    ghost use Rattle.page_table.specs.State.{part};
+    ghost use Rattle.page_table.specs.State.{MemoryState, part};
     ghost use Rattle.page_table.specs.Changes.{OtherTenantsUnchanged};
     ghost use Rattle.tenant_runs.specs.Fulfilment.{KeepsSizes};
-    ghost use Rattle.host_core.specs.Batches.{IsUnderWayAt, HasMadeStep, HasAdvanced};
+    ghost use Rattle.host_core.specs.Batches.{IsUnderWayAt, IsStarted, HasMadeStep, HasAdvanced};
     ghost use Rattle.host_core.specs.declared.tenant.OpenRun.{OpenRun as KeptRun};
 
     /// Makes one step: what the run returned, if it ended with it. What is reserved afterwards is what the rest of the run may
@@ -483,8 +483,7 @@ impl OpenRun {
         }
     }
 
-    /// Makes steps up to a limit, and none after the first that asks for an update or a deletion in the tenant's maps:
-    /// what the run returned, where it ended. What is reserved afterwards is what the rest of the run may need.
+    /// Makes steps as `advance_program` does, of the program at its index.
     #[inline(always)]
     fn advance(
         &mut self,
@@ -504,11 +503,56 @@ impl OpenRun {
         let Some(program) = &programs[self.program as usize] else {
             unreachable!();
         };
+        self.advance_program(program, memory, number, limit)
+    }
+
+    /// Makes steps up to a limit, and none after the first that asks for an update or a deletion in the tenant's maps:
+    /// what the run returned, where it ended. What is reserved afterwards is what the rest of the run may need.
+    #[inline(always)]
+    pub(crate) fn advance_program(
+        &mut self,
+        program: &Verified,
+        memory: &mut Memory,
+        number: u32,
+        limit: u64,
+    ) -> Option<u64>
+        requires some { 0 < limit }
+        requires under_way { (programs : List (Option Accepted)) × (s : MachineState) × IsUnderWayAt programs self.old program.now s (part memory.old number) }
+        ensures program { self.new.program ≡ self.old.program }
+        ensures advanced { (programs : List (Option Accepted)) (s : MachineState) → IsUnderWayAt programs self.old program.now s (part memory.old number)
+            → HasAdvanced program.now s number limit self.old.run memory.old result self.new.run memory.new }
+        ensures others { OtherTenantsUnchanged number memory.old memory.new }
+        ensures sizes { KeepsSizes memory.old memory.new }
+    {
         program.facts();
         memory.facts();
         // All that is reserved for the run may be had while it makes its steps.
         lower(memory, number, 0);
         memory.facts();
+        self.advance_started(program, memory, number, limit)
+    }
+
+    /// Makes steps as `advance_program` does, where nothing is recorded as reserved for the run, though as much may be had as it
+    /// may need: `before` is the memory with that recorded.
+    #[inline(always)]
+    pub(crate) fn advance_started(
+        &mut self,
+        program: &Verified,
+        memory: &mut Memory,
+        number: u32,
+        limit: u64,
+    ) -> Option<u64>
+        requires some { 0 < limit }
+        requires started { (programs : List (Option Accepted)) × (s : MachineState) × (before : MemoryState)
+            × IsUnderWayAt programs self.old program.now s (part before number) × IsStarted program.now number s before memory.old }
+        ensures program { self.new.program ≡ self.old.program }
+        ensures advanced { (programs : List (Option Accepted)) (s : MachineState) (before : MemoryState)
+            → IsUnderWayAt programs self.old program.now s (part before number) → IsStarted program.now number s before memory.old
+            → HasAdvanced program.now s number limit self.old.run before result self.new.run memory.new }
+        ensures others { OtherTenantsUnchanged number memory.old memory.new }
+        ensures sizes { KeepsSizes memory.old memory.new }
+    {
+        program.facts();
         let maps = TenantMaps { tenant: number };
         let steps = lesser(program.instructions(), limit);
         match self.run.advance_on(program, &maps, memory, steps) {
@@ -530,7 +574,7 @@ impl OpenRun {
 }
 
 /// The program at an index, if there is one.
-fn program_of(programs: &[Option<Verified>], index: u32) -> Option<&Verified>
+pub(crate) fn program_of(programs: &[Option<Verified>], index: u32) -> Option<&Verified>
     ensures { option_copied result ≡ slice_index_or programs.now index None }
 {
     match programs.get(index as usize) {

@@ -1,20 +1,21 @@
 //! A whole run of a tenant, in one call.
-ghost use Rattle.std.specs.Prelude.{◌≡◌, ◌≢◌, true, false};
-ghost use Rattle.host_core.specs.declared.reply.Reply.TheVariants.{Begun};
+ghost use Rattle.std.specs.Prelude.{◌≡◌, ◌≤◌, ◌<◌, ◌+◌, Some};
 
-use crate::host::into_reply;
 use crate::reply::Reply;
-use crate::tenant::Tenant;
+use crate::tenant::{Tenant, program_of};
+use host_types::Fault;
 use page_table::Memory;
+use tenant_runs::reopen_unreserved;
 
 /// More steps than a run makes.
 const ALL_STEPS: u64 = 4294967296;
 
 impl Tenant {
-    ghost use Rattle.host_core.specs.HostView.{IsKept, HasMadeRun};
+    ghost use Rattle.host_core.specs.HostView.{IsKept, HasMadeRun, HasMadeSteps, steps_of};
 
     /// Makes a whole run of a program, from its beginning to its end: the reply is that to its last step, or what refuses its
-    /// beginning.
+    /// beginning. A run that asks for no update or deletion is never noted as open, and nothing is recorded as reserved for it:
+    /// nobody could see that.
     #[inline(always)]
     pub(crate) fn run(
         &mut self,
@@ -26,22 +27,40 @@ impl Tenant {
         requires kept { IsKept number self.old memory.old }
         ensures { HasMadeRun number self.old memory.old program context.now result self.new memory.new }
     {
-        let begun = into_reply(self.begin(memory, number, program, context));
         memory.facts();
-        if !has_begun(&begun) {
-            return begun;
+        if self.run.is_open {
+            return Reply::Refused(Fault::Busy);
         }
-        match self.make_steps(memory, number, ALL_STEPS) {
+        let Some(verified) = program_of(self.programs.as_slice(), program) else {
+            return Reply::Refused(Fault::NoProgram);
+        };
+        let open = &mut self.run.latest;
+        open.program = program;
+        if let Err(fault) = reopen_unreserved(memory, number, verified, context, &mut open.run) {
+            return Reply::Refused(fault);
+        }
+        memory.facts();
+        let ended = open.advance_started(verified, memory, number, ALL_STEPS);
+        memory.facts();
+        let steps = open.run.steps();
+        let Some(ret) = ended else {
+            self.run.is_open = true;
+            return self.make_last_steps(memory, number, ALL_STEPS - u64::from(steps));
+        };
+        Reply::Ended { ret, steps }
+    }
+
+    /// Makes the steps that are left of the open run: the reply to the last one. The limit is one that the run doesn't reach.
+    #[inline(never)]
+    fn make_last_steps(&mut self, memory: &mut Memory, number: u32, limit: u64) -> Reply
+        requires some { 0 < limit }
+        requires all { 4294967296 ≤ steps_of self.old.run + limit }
+        requires kept { IsKept number self.old memory.old }
+        ensures { HasMadeSteps number self.old memory.old limit (Some result) self.new memory.new }
+    {
+        match self.make_steps(memory, number, limit) {
             Some(last) => last,
             None => unreachable!(),
         }
     }
-}
-
-/// Whether a reply says that a run is open.
-fn has_begun(reply: &Reply) -> bool
-    ensures begun { result ≡ true → reply.now ≡ Begun }
-    ensures other { result ≡ false → reply.now ≢ Begun }
-{
-    matches!(reply, Reply::Begun)
 }

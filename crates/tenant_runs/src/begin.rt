@@ -5,7 +5,7 @@ ghost use Rattle.admission.specs.Reserve.{needed_from};
 ghost use Rattle.interp.specs.StandsFor.{IsBegun};
 ghost use Rattle.tenant_runs.specs.UnderWay.{RefusesOpen};
 
-use admission::needed;
+use admission::{breaks, needed};
 use host_types::Fault;
 use interp::Run;
 use page_table::Memory;
@@ -83,6 +83,51 @@ pub fn reopen_run(
     match run.restart(program, context) {
         Ok(()) => {
             memory.begin_run(tenant, need);
+            Ok(())
+        }
+        Err(_) => Err(Fault::OutOfMemory),
+    }
+}
+
+/// Opens a run as `reopen_run` does, for a caller that makes its steps at once: what it may need may be had, and nothing of it is
+/// recorded as reserved. Most runs find more frames than all their stores may take, so that no map is looked at.
+#[inline(always)]
+pub fn reopen_unreserved(
+    memory: &mut Memory,
+    tenant: u32,
+    program: &Verified,
+    context: &[u8],
+    run: &mut Run,
+) -> Result<(), Fault>
+    requires there { length (part memory.old tenant).maps ≡ 8 }
+    requires none { (part memory.old tenant).running ≡ false }
+    requires unreserved { (part memory.old tenant).reserve ≡ 0 }
+    ensures sized { OnOk result (length context.now ≡ program.now.subject.context_size) }
+    ensures begun { OnOk result (IsBegun program.now context.now run.new) }
+    ensures steps { OnOk result (run.new.steps ≡ 0) }
+    ensures enough { OnOk result (needed_from program.now (part memory.old tenant) 0 ≤ have_of memory.old) }
+    ensures recorded { OnOk result (part memory.new tenant ≡ with_run 0 (part memory.old tenant)) }
+    ensures all { OnOk result (memory.new ≡ opened memory.old tenant 0) }
+    ensures others { OtherTenantsUnchanged tenant memory.old memory.new }
+    ensures refused { IfErr result (RefusesOpen program.now context.now memory.old tenant) }
+    ensures unchanged { OnErr result (memory.new ≡ memory.old) }
+    ensures kept { OnErr result (run.new ≡ run.old) }
+{
+    if context.len() != program.ctx_size() as usize {
+        return Err(Fault::BadContext);
+    }
+    if memory.have() < breaks(program, 0) {
+        let need = needed(program, memory, tenant, 0);
+        if memory.have() < need {
+            return Err(Fault::NoFrames {
+                need,
+                have: memory.have(),
+            });
+        }
+    }
+    match run.restart(program, context) {
+        Ok(()) => {
+            memory.begin_run(tenant, 0);
             Ok(())
         }
         Err(_) => Err(Fault::OutOfMemory),

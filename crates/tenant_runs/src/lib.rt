@@ -10,7 +10,7 @@ mod needs;
 mod whole_run;
 
 pub use answers::{RunReply, answer, finish};
-pub use begin::{open_run, reopen_run};
+pub use begin::{open_run, reopen_run, reopen_unreserved};
 pub use maps::TenantMaps;
 pub use needs::fulfil;
 pub use whole_run::{has_shapes, run};

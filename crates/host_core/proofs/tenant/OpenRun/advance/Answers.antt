@@ -1,138 +1,27 @@
-use Rattle.std.proofs.Common.{◌≡◌, ℕ, ◌+◌, length, None, Some, ◌∙◌, min, sym, subst, refl, ap, arith}
-use Rattle.host_types.specs.Pins.{released}
-use Rattle.bpf_decode.specs.Text.{instructions_of}
+use Rattle.std.proofs.Common.{◌≡◌, subst, sym}
 use Rattle.verifier.specs.Verified.{Accepted}
-use Rattle.admission.specs.Reserve.{needed_from}
-use Rattle.interp.specs.declared.need.Need.{Need}
-use Rattle.interp.specs.declared.need.Need.TheVariants.{Private, Ended}
 use Rattle.interp.specs.Machine.{MachineState}
-use Rattle.interp.specs.OnMaps.{FollowsOn}
-use Rattle.page_table.specs.Changes.{OtherTenantsUnchanged}
-use Rattle.page_table.specs.State.{MemoryState, part}
-use Rattle.tenant_runs.specs.Fulfilment.{KeepsSizes}
-use Rattle.tenant_runs.specs.Storing.{maps_of_part, HasStoreFrames, HasStored}
-use Rattle.tenant_runs.proofs.OnMaps.{Keeps}
-use Rattle.tenant_runs.proofs.Rooms.{record_keeps, ended_keeps, keeps_twice}
+use Rattle.page_table.specs.State.{part}
 use Rattle.host_core.specs.Batches.{IsUnderWayAt, HasAdvanced}
-use Rattle.host_core.proofs.Advances.{IsStarted, program_is, started, stands_at, kept_on, private_room, private_advanced, ended_advanced, asked_advanced, asked_at, asking_at}
+use Rattle.host_core.proofs.Advances.{program_is}
 use Rattle.host_core.proofs.tenant.OpenRun.advance.Goals as goal
-use Rattle.host_core.proofs.tenant.OpenRun.advance.Goals.{After-advance_on}
+use Rattle.host_core.proofs.tenant.OpenRun.advance.Goals.{In-Some}
 
-module _ (c : After-advance_on) where
-  -- in a state in which the kept run is under way its program was found, and what was reserved may be had
-  module _ (v : Accepted) (s : MachineState) (under : IsUnderWayAt c.args.programs.now c.args.self.now v s (part c.args.memory.now c.args.number)) where
-    same : c.in-Some.program ≡ v
-    same = program_is c.args.programs.now c.args.self.now.program c.index-programs-self.result c.in-Some.program v c.index-programs-self.is c.in-Some.is under.numbered
+-- in a state in which the kept run is under way its program was found
+module _ (c : In-Some) (v : Accepted) (s : MachineState) (under : IsUnderWayAt c.args.programs.now c.args.self.now v s (part c.args.memory.now c.args.number)) where
+  same : c.in-Some.program ≡ v
+  same = program_is c.args.programs.now c.args.self.now.program c.index-programs-self.result c.in-Some.program v c.index-programs-self.is c.in-Some.is under.numbered
 
-    here : IsUnderWayAt c.args.programs.now c.args.self.now c.in-Some.program s (part c.args.memory.now c.args.number)
-    here = subst (λ p. IsUnderWayAt c.args.programs.now c.args.self.now p s (part c.args.memory.now c.args.number)) (sym same) under
+  here : IsUnderWayAt c.args.programs.now c.args.self.now c.in-Some.program s (part c.args.memory.now c.args.number)
+  here = subst (λ p. IsUnderWayAt c.args.programs.now c.args.self.now p s (part c.args.memory.now c.args.number)) (sym same) under
 
-    start : IsStarted c.in-Some.program c.args.number s c.args.memory.now c.lower.new.memory
-    start = started c.args.programs.now c.args.self.now c.in-Some.program s c.args.number c.args.memory.now c.lower.new.memory here c.facts-2.ensures c.facts-3.ensures c.lower.ensures.recorded c.lower.ensures.have c.lower.ensures.all
-
-    -- so its steps are those of the standard's machine from there
-    followed : (need : Need) → c.advance_on.result ≡ need
-        → (n : ℕ) × FollowsOn (maps_of_part c.args.number) (HasStoreFrames c.args.number) (HasStored c.args.number) c.in-Some.program s c.lower.new.memory n need c.advance_on.new.self c.advance_on.new.memory
-        × (c.advance_on.new.self.steps ≡ c.args.self.now.run.steps + n)
-    followed need is =
-        let (n, follows, made) = c.advance_on.ensures.follows s (stands_at c.args.programs.now c.args.self.now c.in-Some.program s c.args.number c.args.memory.now c.lower.new.memory here start) in
-        (n, subst (λ (need : Need). FollowsOn (maps_of_part c.args.number) (HasStoreFrames c.args.number) (HasStored c.args.number) c.in-Some.program s c.lower.new.memory n need c.advance_on.new.self c.advance_on.new.memory) is follows, made)
-
-  -- what they keep of the memory
-  kept : Keeps c.args.number c.lower.new.memory c.advance_on.new.memory × (length (part c.advance_on.new.memory c.args.number).maps ≡ 8)
-  kept =
-      let (v, s, under) = c.requires.under_way in
-      let (n, follows, made) = followed v s under c.advance_on.result refl in
-      kept_on c.in-Some.program c.args.number s n c.advance_on.result c.advance_on.new.self c.args.memory.now c.lower.new.memory c.advance_on.new.memory (start v s under) follows
-
-  others_kept : OtherTenantsUnchanged c.args.number c.args.memory.now c.advance_on.new.memory
-  others_kept t other = kept.0.others t other ∙ c.lower.ensures.others t other
-
-  sizes_kept : KeepsSizes c.args.memory.now c.advance_on.new.memory
-  sizes_kept = keeps_twice c.args.memory.now c.lower.new.memory c.advance_on.new.memory (record_keeps c.args.memory.now c.lower.new.memory c.args.number 0 c.lower.ensures.all) kept.0.sizes
-
-  -- how many they may be
-  many : c.lesser-steps.result ≡ min (instructions_of c.in-Some.program.subject.text) c.args.limit
-  many = c.lesser-steps.ensures ∙ ap (λ all. min all c.args.limit) c.instructions.ensures
-
-pub lower-requires-clause-there : goal.lower-requires-clause-there
-lower-requires-clause-there c =
+pub advance_program-requires-clause-under_way : goal.advance_program-requires-clause-under_way
+advance_program-requires-clause-under_way c =
     let (v, s, under) = c.requires.under_way in
-    rw under.maps under.stands.state.maps.eight
+    (c.args.programs.now, s, here (goal.at.advance_program-requires-clause-under_way c).In-Some v s under)
 
-pub advance_on-requires : goal.advance_on-requires
-advance_on-requires c =
-    let (v, s, under) = c.requires.under_way in
-    let same = program_is c.args.programs.now c.args.self.now.program c.index-programs-self.result c.in-Some.program v c.index-programs-self.is c.in-Some.is under.numbered in
-    let here = subst (λ p. IsUnderWayAt c.args.programs.now c.args.self.now p s (part c.args.memory.now c.args.number)) (sym same) under in
-    let start = started c.args.programs.now c.args.self.now c.in-Some.program s c.args.number c.args.memory.now c.lower.new.memory here c.facts-2.ensures c.facts-3.ensures c.lower.ensures.recorded c.lower.ensures.have c.lower.ensures.all in
-    record { running = (s, stands_at c.args.programs.now c.args.self.now c.in-Some.program s c.args.number c.args.memory.now c.lower.new.memory here start) }
-
-pub record-requires-clause-there : goal.record-requires-clause-there
-record-requires-clause-there c = (kept (goal.at.record-requires-clause-there c).After-advance_on).1
-
-pub record-requires-clause-room : goal.record-requires-clause-room
-record-requires-clause-room c =
-    let (v, s, under) = c.requires.under_way in
-    let (n, private, made) = followed (goal.at.record-requires-clause-room c).After-advance_on v s under Private c.in-Private.is in
-    let room = private_room c.in-Some.program c.args.number s n c.advance_on.new.self c.lower.new.memory c.advance_on.new.memory private in
-    rw (c.needed-left.ensures, c.slot.ensures) (omega (arith, room))
-
-pub release-requires : goal.release-requires
-release-requires c = record { there = (kept (goal.at.release-requires c).After-advance_on).1 }
-
-pub answer-requires : goal.answer-requires
-answer-requires c =
-    let (v, s, under) = c.requires.under_way in
-    let at = (goal.at.answer-requires c).After-advance_on in
-    let (n, follows, made) = followed at v s under c.advance_on.result refl in
-    let asked = asked_at c.in-Some.program c.args.number s n c.advance_on.result c.advance_on.new.self c.lower.new.memory c.advance_on.new.memory c.in_default-advance_on.not-Private c.in_default-advance_on.not-Ended follows in
-    record { asks = (asked.here, asking_at c.in-Some.program c.args.number s n c.advance_on.result c.advance_on.new.self c.args.memory.now c.lower.new.memory c.advance_on.new.memory (start at v s under) asked) }
-
-pub returns-in-Private-clause-advanced : goal.returns-in-Private-clause-advanced
-returns-in-Private-clause-advanced c v s under =
-    let at = (goal.at.returns-in-Private-clause-advanced c).After-advance_on in
-    let left : c.needed-left.result ≡ needed_from c.in-Some.program (part c.advance_on.new.memory c.args.number) c.advance_on.new.self.slot =
-    c.needed-left.ensures ∙ ap (needed_from c.in-Some.program (part c.advance_on.new.memory c.args.number)) c.slot.ensures in
-    let sharing : c.record.new.self.sharing ≡ c.advance_on.new.memory.sharing = ap (λ (memory : MemoryState). memory.sharing) c.record.ensures.all in
-    subst (λ p. HasAdvanced p s c.args.number c.args.limit c.args.self.now.run c.args.memory.now None c.advance_on.new.self c.record.new.self) (same at v s under)
-    (private_advanced c.args.programs.now c.args.self.now c.in-Some.program s c.args.number c.args.limit c.lesser-steps.result c.advance_on.new.self c.args.memory.now c.lower.new.memory c.advance_on.new.memory c.record.new.self
-    (here at v s under) (start at v s under) c.facts.ensures c.requires.some (many at) (followed at v s under Private c.in-Private.is) (c.advance_on.ensures.all c.in-Private.is) (rw left at c.record.ensures.recorded) sharing)
-
-pub returns-in-Private-clause-others : goal.returns-in-Private-clause-others
-returns-in-Private-clause-others c t other = c.record.ensures.others t other ∙ others_kept (goal.at.returns-in-Private-clause-others c).After-advance_on t other
-
-pub returns-in-Private-clause-sizes : goal.returns-in-Private-clause-sizes
-returns-in-Private-clause-sizes c =
-    keeps_twice c.args.memory.now c.advance_on.new.memory c.record.new.self (sizes_kept (goal.at.returns-in-Private-clause-sizes c).After-advance_on)
-    (record_keeps c.advance_on.new.memory c.record.new.self c.args.number _ c.record.ensures.all)
-
-pub returns-in-Ended-clause-advanced : goal.returns-in-Ended-clause-advanced
-returns-in-Ended-clause-advanced c v s under =
-    let at = (goal.at.returns-in-Ended-clause-advanced c).After-advance_on in
-    let sharing : c.release.new.memory.sharing ≡ released c.advance_on.new.memory.sharing c.args.number = ap (λ (memory : MemoryState). memory.sharing) c.release.ensures.all in
-    subst (λ p. HasAdvanced p s c.args.number c.args.limit c.args.self.now.run c.args.memory.now (Some c.in-Ended.ret) c.advance_on.new.self c.release.new.memory) (same at v s under)
-    (ended_advanced c.args.programs.now c.args.self.now c.in-Some.program s c.args.number c.args.limit c.lesser-steps.result c.in-Ended.ret c.advance_on.new.self c.args.memory.now c.lower.new.memory c.advance_on.new.memory c.release.new.memory
-    (start at v s under) (many at) (followed at v s under (Ended c.in-Ended.ret) c.in-Ended.is) c.advance_on.ensures.limit c.release.ensures.recorded sharing)
-
-pub returns-in-Ended-clause-others : goal.returns-in-Ended-clause-others
-returns-in-Ended-clause-others c t other = c.release.ensures.others t other ∙ others_kept (goal.at.returns-in-Ended-clause-others c).After-advance_on t other
-
-pub returns-in-Ended-clause-sizes : goal.returns-in-Ended-clause-sizes
-returns-in-Ended-clause-sizes c =
-    keeps_twice c.args.memory.now c.advance_on.new.memory c.release.new.memory (sizes_kept (goal.at.returns-in-Ended-clause-sizes c).After-advance_on)
-    (ended_keeps c.advance_on.new.memory c.release.new.memory c.args.number c.release.ensures.all)
-
-pub returns-in_default-advance_on : goal.returns-in_default-advance_on
-returns-in_default-advance_on c =
-    let at = (goal.at.returns-in_default-advance_on c).After-advance_on in
-    record {
-      program = refl;
-      advanced = λ v s under.
-          subst (λ p. HasAdvanced p s c.args.number c.args.limit c.args.self.now.run c.args.memory.now None c.answer.new.run c.answer.new.memory) (same at v s under)
-          (asked_advanced c.args.self.now c.in-Some.program s c.args.number c.args.limit c.lesser-steps.result c.advance_on.result c.advance_on.new.self c.answer.new.run c.args.memory.now c.lower.new.memory c.advance_on.new.memory c.answer.new.memory
-          (start at v s under) (many at) c.in_default-advance_on.not-Private c.in_default-advance_on.not-Ended (followed at v s under c.advance_on.result refl) c.advance_on.ensures.limit
-          c.answer.ensures.goes_on c.answer.ensures.reserve c.answer.ensures.steps c.answer.ensures.sharing);
-      others = λ t other. c.answer.ensures.others t other ∙ others_kept at t other;
-      sizes = keeps_twice c.args.memory.now c.advance_on.new.memory c.answer.new.memory (sizes_kept at) c.answer.ensures.sizes;
-    }
+pub returns-clause-advanced : goal.returns-clause-advanced
+returns-clause-advanced c v s under =
+    let at = (goal.at.returns-clause-advanced c).In-Some in
+    subst (λ p. HasAdvanced p s c.args.number c.args.limit c.args.self.now.run c.args.memory.now c.advance_program.result c.advance_program.new.self.run c.advance_program.new.memory) (same at v s under)
+    (c.advance_program.ensures.advanced c.args.programs.now s (here at v s under))

@@ -1,25 +1,205 @@
-use Rattle.std.proofs.Common.{subst, sym}
+use Rattle.std.proofs.Common.{◌≡◌, ℕ, ◌+◌, ◌-◌, ◌≤◌, option_copied, if◌then◌else◌, Option, None, Some, is_some, true, false, ◌∙◌, sym, ap, refl, subst, rules, arith, ◌<◌, length}
+use Rattle.host_types.specs.declared.fault.Fault.TheVariants.{Busy, NoProgram}
 use Rattle.host_types.specs.declared.event.Event.TheVariants.{Begin}
-use Rattle.host_core.specs.HostView.{IsServed}
-use Rattle.host_core.proofs.Making.{kept-served, run-refused, run-made}
+use Rattle.page_table.specs.Changes.{OtherTenantsUnchanged}
+use Rattle.page_table.specs.Reads.{ReadsAs}
+use Rattle.page_table.specs.State.{MemoryState, part, have_of}
+use Rattle.admission.specs.Reserve.{needed_from}
+use Rattle.verifier.specs.Verified.{Accepted}
+use Rattle.interp.specs.Machine.{MachineState}
+use Rattle.tenant_runs.specs.Fulfilment.{KeepsSizes}
+use Rattle.host_core.specs.Batches.{IsUnderWayAt, IsStarted, HasAdvanced}
+use Rattle.host_core.specs.declared.reply.Reply.TheVariants.{Begun, Ended, Refused}
+use Rattle.host_core.specs.declared.tenant.OpenRun.{OpenRun as KeptRun}
+use Rattle.host_core.specs.HostView.{TenantView, IsServed, IsKept, HasMadeRun, HasMadeSteps}
+use Rattle.host_core.proofs.Indices.{slice_get-there}
+use Rattle.host_core.proofs.Serving.{kept-there}
+use Rattle.host_core.proofs.Opening.{accepted_at, lent-at, begin-busy, begin-no_program, begin-not_opened, begin-begun, kept-idle, kept-resting}
+use Rattle.host_core.proofs.Making.{kept-served, kept-made, made-join, made-some, run-refused, run-made}
+use Rattle.host_core.proofs.Leaving.{kept-inside}
+use Rattle.host_core.proofs.Unreserved.{with_need, reads_with, admitted, begins, others_later, sizes_later}
+use Rattle.host_core.proofs.Stepping.{made-steps, made-last_step, advanced-some, under-way-kept}
 use Rattle.host_core.proofs.tenant.Tenant.run.Goals as goal
-use Rattle.host_core.proofs.tenant.Tenant.run.Goals.{After-into_reply-begun}
+use Rattle.host_core.proofs.tenant.Tenant.run.Goals.{In-Some, After-facts-2, After-steps-steps}
 
--- what is replied to the beginning
-served : (c : After-into_reply-begun) → IsServed c.args.number c.args.self.now c.args.memory.now (Begin c.args.number c.args.program c.args.context.now) c.into_reply-begun.result c.begin.new.self c.begin.new.memory
-served c =
-    subst (λ reply. IsServed c.args.number c.args.self.now c.args.memory.now (Begin c.args.number c.args.program c.args.context.now) reply c.begin.new.self c.begin.new.memory) (sym c.into_reply-begun.ensures) c.begin.ensures
+pub returns-then-self : goal.returns-then-self
+returns-then-self c =
+    let seen : ◌≡◌ {A = TenantView} (record { programs = c.self-inside.inside.0.0; run = Some c.self-inside.inside.0.1.0.latest }) c.args.self.now = search rules in
+    let busy : is_some c.args.self.now.run ≡ true = sym (ap (λ (kept : TenantView). is_some kept.run) seen) in
+    run-refused c.args.number c.args.program c.args.context.now c.args.self.now c.args.self.now c.args.memory.now c.args.memory.now (Refused Busy) c.facts.ensures
+    (begin-busy c.args.number c.args.program c.args.self.now c.args.memory.now c.args.context.now busy) (λ e. cc)
 
-pub returns-then-not-has_begun : goal.returns-then-not-has_begun
-returns-then-not-has_begun c =
-    run-refused c.args.number c.args.program c.args.context.now c.args.self.now c.begin.new.self c.args.memory.now c.begin.new.memory c.into_reply-begun.result c.facts.ensures (served (goal.at.returns-then-not-has_begun c).After-into_reply-begun)
-    (c.has_begun.ensures.other c.if-not-has_begun.true)
+pub returns-in_default : goal.returns-in_default
+returns-in_default c =
+    let kept : TenantView = record { programs = c.self-inside.inside.0.0; run = None } in
+    let inside : ◌≡◌ {A = TenantView} kept c.args.self.now = search rules in
+    let missing : accepted_at kept c.args.program ≡ None = lent-at kept c.as_slice.result.now c.args.program c.as_slice.ensures c.program_of.ensures ∙ ap option_copied c.in_default.is in
+    let served = subst (λ seen. IsServed c.args.number seen c.args.memory.now (Begin c.args.number c.args.program c.args.context.now) (Refused NoProgram) seen c.args.memory.now) inside
+    (begin-no_program c.args.number c.args.program kept c.args.memory.now c.args.context.now refl missing) in
+    run-refused c.args.number c.args.program c.args.context.now c.args.self.now c.args.self.now c.args.memory.now c.args.memory.now (Refused NoProgram) c.facts.ensures served (λ e. cc)
 
-pub make_steps-requires-clause-kept : goal.make_steps-requires-clause-kept
-make_steps-requires-clause-kept c =
-    kept-served c.args.number c.args.self.now c.begin.new.self c.args.memory.now c.begin.new.memory (Begin c.args.number c.args.program c.args.context.now) c.into_reply-begun.result (served (goal.at.make_steps-requires-clause-kept c).After-into_reply-begun) c.requires.kept
+module _ (c : In-Some) where
+  -- the tenant as it is seen, without an open run
+  abbrev kept : TenantView
+  kept = record { programs = c.self-inside.inside.0.0; run = None }
+
+  inside : ◌≡◌ {A = TenantView} kept c.args.self.now
+  inside = search rules
+
+  idle : is_some c.args.self.now.run ≡ false
+  idle = sym (ap (λ (seen : TenantView). is_some seen.run) inside)
+
+  found : accepted_at kept c.args.program ≡ Some c.in-Some.verified.now
+  found = lent-at kept c.as_slice.result.now c.args.program c.as_slice.ensures c.program_of.ensures ∙ ap option_copied c.in-Some.is
+
+pub reopen_unreserved-requires-clause-there : goal.reopen_unreserved-requires-clause-there
+reopen_unreserved-requires-clause-there c = kept-there c.args.number c.args.self.now c.args.memory.now c.requires.kept
+
+pub reopen_unreserved-requires-clause-none : goal.reopen_unreserved-requires-clause-none
+reopen_unreserved-requires-clause-none c =
+    kept-resting c.args.number c.args.self.now c.args.memory.now c.requires.kept (idle (goal.at.reopen_unreserved-requires-clause-none c).In-Some)
+
+pub reopen_unreserved-requires-clause-unreserved : goal.reopen_unreserved-requires-clause-unreserved
+reopen_unreserved-requires-clause-unreserved c =
+    kept-idle c.args.number c.args.self.now c.args.memory.now c.requires.kept (idle (goal.at.reopen_unreserved-requires-clause-unreserved c).In-Some)
+
+pub returns-in-Err : goal.returns-in-Err
+returns-in-Err c =
+    let at = (goal.at.returns-in-Err c).In-Some in
+    let call = c.in-Err.ensures in
+    let event = Begin c.args.number c.args.program c.args.context.now in
+    let refused = begin-not_opened c.args.number c.args.program (kept at) c.args.context.now c.in-Some.verified.now refl (found at) c.args.memory.now c.in-Err.fault call.refused in
+    let served = subst (λ seen. IsServed c.args.number seen c.args.memory.now event (Refused c.in-Err.fault) (kept at) c.args.memory.now) (inside at) refused in
+    let made = run-refused c.args.number c.args.program c.args.context.now c.args.self.now (kept at) c.args.memory.now c.args.memory.now (Refused c.in-Err.fault) c.facts.ensures served (λ e. cc) in
+    let after : KeptRun = record { program = c.args.program; run = c.reopen_unreserved.new.run } in
+    subst (λ b. HasMadeRun c.args.number c.args.self.now c.args.memory.now c.args.program c.args.context.now (Refused c.in-Err.fault) (record { programs = c.self-inside.inside.0.0; run = if b then Some after else None }) c.reopen_unreserved.new.memory) (sym c.if-self.false)
+    (subst (HasMadeRun c.args.number c.args.self.now c.args.memory.now c.args.program c.args.context.now (Refused c.in-Err.fault) (kept at)) (sym call.unchanged) made)
+
+module _ (c : After-facts-2) where
+  abbrev here_in : In-Some
+  here_in = (goal.at.After-facts-2 c).In-Some
+
+  there : c.args.number < length c.args.memory.now.tenants
+  there = kept-inside c.args.number c.args.self.now c.args.memory.now c.requires.kept
+
+  eight : length (part c.args.memory.now c.args.number).maps ≡ 8
+  eight = kept-there c.args.number c.args.self.now c.args.memory.now c.requires.kept
+
+  unreserved : (part c.args.memory.now c.args.number).reserve ≡ 0
+  unreserved = kept-idle c.args.number c.args.self.now c.args.memory.now c.requires.kept (idle here_in)
+
+  enough : needed_from c.in-Some.verified.now (part c.args.memory.now c.args.number) 0 ≤ have_of c.args.memory.now
+  enough = c.in_default-reopen_unreserved.ensures.enough
+
+  -- the memory with what the run may need recorded
+  abbrev with_it : MemoryState
+  with_it = with_need c.in-Some.verified.now c.args.number c.args.memory.now c.facts.ensures there eight unreserved enough
+
+  reads_it : ReadsAs with_it
+  reads_it = reads_with c.in-Some.verified.now c.args.number c.args.memory.now c.facts.ensures there eight unreserved enough
+
+  abbrev open_run : KeptRun
+  open_run = record { program = c.args.program; run = c.reopen_unreserved.new.run }
+
+  abbrev begun : TenantView
+  begun = record { programs = c.self-inside.inside.0.0; run = Some open_run }
+
+  -- the run is begun
+  served : IsServed c.args.number c.args.self.now c.args.memory.now (Begin c.args.number c.args.program c.args.context.now) Begun begun with_it
+  served =
+      let at = (goal.at.After-facts-2 c).In-Some in
+      let call = c.in_default-reopen_unreserved.ensures in
+      subst (λ seen. IsServed c.args.number seen c.args.memory.now (Begin c.args.number c.args.program c.args.context.now) Begun begun with_it) (inside at)
+      (begin-begun c.args.number c.args.program (kept at) c.args.memory.now with_it c.args.context.now c.reopen_unreserved.new.run c.in-Some.verified.now refl (found at) call.sized call.begun call.steps (admitted c.in-Some.verified.now c.args.number c.args.memory.now c.facts.ensures there eight unreserved enough))
+
+  kept_begun : IsKept c.args.number begun with_it
+  kept_begun = kept-served c.args.number c.args.self.now begun c.args.memory.now with_it (Begin c.args.number c.args.program c.args.context.now) Begun served c.requires.kept
+
+  -- it is one of the program that was found
+  same : (v : Accepted) (s : MachineState) → IsUnderWayAt c.self-inside.inside.0.0 open_run v s (part with_it c.args.number) → v ≡ c.in-Some.verified.now
+  same v s under =
+      let at = (goal.at.After-facts-2 c).In-Some in
+      let there = slice_get-there c.self-inside.inside.0.0 c.args.program c.in-Some.verified.now (found at) in
+      let alike : Some (Some v) ≡ Some (Some c.in-Some.verified.now) = sym under.numbered ∙ there in
+      cc
+
+  starts : (s : MachineState) → IsUnderWayAt c.self-inside.inside.0.0 open_run c.in-Some.verified.now s (part with_it c.args.number) → IsStarted c.in-Some.verified.now c.args.number s with_it c.reopen_unreserved.new.memory
+  starts s under =
+      let call = c.in_default-reopen_unreserved.ensures in
+      begins c.in-Some.verified.now c.args.number c.args.memory.now c.facts.ensures there eight unreserved enough c.reopen_unreserved.new.memory call.recorded call.all c.self-inside.inside.0.0 open_run s under c.facts-2.ensures
+
+pub advance_started-ended-requires-clause-started : goal.advance_started-ended-requires-clause-started
+advance_started-ended-requires-clause-started c =
+    let at = (goal.at.advance_started-ended-requires-clause-started c).After-facts-2 in
+    let (v, s, under) = under-way-kept c.self-inside.inside.0.0 (open_run at) c.args.number (with_it at) (kept_begun at) in
+    let way = subst (λ p. IsUnderWayAt c.self-inside.inside.0.0 (open_run at) p s (part (with_it at) c.args.number)) (same at v s under) under in
+    (c.self-inside.inside.0.0, s, with_it at, way, starts at s way)
+
+module _ (c : After-steps-steps) where
+  abbrev here : After-facts-2
+  here = (goal.at.After-steps-steps c).After-facts-2
+
+  -- its steps are those of the standard's machine
+  advanced : (ended : Option ℕ) → c.advance_started-ended.result ≡ ended → (v : Accepted) (s : MachineState) → IsUnderWayAt c.self-inside.inside.0.0 (open_run here) v s (part (with_it here) c.args.number)
+      → HasAdvanced v s c.args.number 4294967296 c.reopen_unreserved.new.run (with_it here) ended c.advance_started-ended.new.self.run c.advance_started-ended.new.memory
+  advanced ended is v s under =
+      let is_same = same here v s under in
+      let way = subst (λ p. IsUnderWayAt c.self-inside.inside.0.0 (open_run here) p s (part (with_it here) c.args.number)) is_same under in
+      subst (λ p. HasAdvanced p s c.args.number 4294967296 c.reopen_unreserved.new.run (with_it here) ended c.advance_started-ended.new.self.run c.advance_started-ended.new.memory) (sym is_same)
+      (subst (λ o. HasAdvanced c.in-Some.verified.now s c.args.number 4294967296 c.reopen_unreserved.new.run (with_it here) o c.advance_started-ended.new.self.run c.advance_started-ended.new.memory) is
+      (c.advance_started-ended.ensures.advanced c.self-inside.inside.0.0 s (with_it here) way (starts here s way)))
+
+  counted : c.reopen_unreserved.new.run.steps + c.steps-steps.result ≡ c.advance_started-ended.new.self.run.steps
+  counted =
+      let none = c.in_default-reopen_unreserved.ensures.steps in
+      omega (arith, none, c.steps-steps.ensures)
+
+  few : c.steps-steps.result ≤ 4294967296
+  few =
+      let (more, most) = advanced-some c.self-inside.inside.0.0 (open_run here) c.advance_started-ended.new.self.run c.args.number 4294967296 c.advance_started-ended.result (with_it here) c.advance_started-ended.new.memory (kept_begun here) (advanced c.advance_started-ended.result refl) in
+      omega (arith, most, counted)
+
+  others_kept : OtherTenantsUnchanged c.args.number (with_it here) c.advance_started-ended.new.memory
+  others_kept =
+      let call = c.in_default-reopen_unreserved.ensures in
+      others_later c.in-Some.verified.now c.args.number c.args.memory.now c.facts.ensures (there here) (eight here) (unreserved here) (enough here) c.reopen_unreserved.new.memory call.recorded call.all c.advance_started-ended.new.memory call.others c.advance_started-ended.ensures.others
+
+  sizes_kept : KeepsSizes (with_it here) c.advance_started-ended.new.memory
+  sizes_kept =
+      let call = c.in_default-reopen_unreserved.ensures in
+      sizes_later c.in-Some.verified.now c.args.number c.args.memory.now c.facts.ensures (there here) (eight here) (unreserved here) (enough here) c.reopen_unreserved.new.memory call.recorded call.all c.advance_started-ended.new.memory c.advance_started-ended.ensures.sizes
 
 pub returns : goal.returns
 returns c =
-    run-made c.args.number c.args.program c.args.context.now c.args.self.now c.begin.new.self c.args.memory.now c.begin.new.memory c.into_reply-begun.result c.facts.ensures (served (goal.at.returns c).After-into_reply-begun)
-    (c.has_begun.ensures.begun c.if-not-has_begun.false) c.make_steps.new.self c.make_steps.new.memory c.make_steps.result c.in-Some.last c.in-Some.is c.make_steps.ensures.steps
+    let at = (goal.at.returns c).After-steps-steps in
+    let made = made-last_step c.self-inside.inside.0.0 (open_run (here at)) c.advance_started-ended.new.self.run c.args.number 4294967296 c.in-Some-ended.ret c.steps-steps.result c.steps-steps.result (with_it (here at)) c.advance_started-ended.new.memory
+    (reads_it (here at)) c.facts-3.ensures (others_kept at) (sizes_kept at) (counted at) c.steps-steps.ensures (advanced at (Some c.in-Some-ended.ret) c.in-Some-ended.is) in
+    let last = Ended c.in-Some-ended.ret c.steps-steps.result in
+    let after : TenantView = record { programs = c.self-inside.inside.0.0; run = None } in
+    let all = made-some c.args.number c.steps-steps.result 4294967296 (begun (here at)) after (with_it (here at)) c.advance_started-ended.new.memory (Some last) (few at) refl made in
+    subst (λ b. HasMadeRun c.args.number c.args.self.now c.args.memory.now c.args.program c.args.context.now last (record { programs = c.self-inside.inside.0.0; run = if b then Some c.advance_started-ended.new.self else None }) c.advance_started-ended.new.memory) (sym c.if-self.false)
+    (run-made c.args.number c.args.program c.args.context.now c.args.self.now (begun (here at)) c.args.memory.now (with_it (here at)) Begun (reads_it (here at)) (served (here at)) refl after c.advance_started-ended.new.memory (Some last) last refl all)
+
+-- steps up to what is asked, after which the run goes on
+module _ (c : After-steps-steps) (asked : c.advance_started-ended.result ≡ None) where
+  abbrev going : TenantView
+  going = record { programs = c.self-inside.inside.0.0; run = Some c.advance_started-ended.new.self }
+
+  first : HasMadeSteps c.args.number (begun (here c)) (with_it (here c)) c.steps-steps.result None going c.advance_started-ended.new.memory
+  first =
+      made-steps c.self-inside.inside.0.0 (open_run (here c)) c.advance_started-ended.new.self c.args.number 4294967296 c.steps-steps.result (with_it (here c)) c.advance_started-ended.new.memory
+      (reads_it (here c)) c.facts-3.ensures (others_kept c) (sizes_kept c) c.advance_started-ended.ensures.program (counted c) (advanced c None asked)
+
+pub make_last_steps-requires-clause-kept : goal.make_last_steps-requires-clause-kept
+make_last_steps-requires-clause-kept c =
+    let at = (goal.at.make_last_steps-requires-clause-kept c).After-steps-steps in
+    kept-made c.args.number c.steps-steps.result (begun (here at)) (going at c.in_default-ended.is) (with_it (here at)) c.advance_started-ended.new.memory None (first at c.in_default-ended.is) (kept_begun (here at))
+
+pub returns-in_default-ended : goal.returns-in_default-ended
+returns-in_default-ended c =
+    let at = (goal.at.returns-in_default-ended c).After-steps-steps in
+    let left = 4294967296 - c.from.result in
+    let joined = made-join c.args.number c.steps-steps.result left (begun (here at)) (going at c.in_default-ended.is) c.make_last_steps.new.self (with_it (here at)) c.advance_started-ended.new.memory c.make_last_steps.new.memory (Some c.make_last_steps.result) (first at c.in_default-ended.is) c.make_last_steps.ensures in
+    let whole : c.steps-steps.result + left ≡ 4294967296 = let most = few at in omega (arith, most, c.from.ensures) in
+    let all = subst (λ k. HasMadeSteps c.args.number (begun (here at)) (with_it (here at)) k (Some c.make_last_steps.result) c.make_last_steps.new.self c.make_last_steps.new.memory) whole joined in
+    run-made c.args.number c.args.program c.args.context.now c.args.self.now (begun (here at)) c.args.memory.now (with_it (here at)) Begun (reads_it (here at)) (served (here at)) refl c.make_last_steps.new.self c.make_last_steps.new.memory (Some c.make_last_steps.result) c.make_last_steps.result refl all
