@@ -49,7 +49,7 @@ _bpf_merging() {
 _bpf_object() {
     local word=${COMP_WORDS[COMP_CWORD]}
     case $word in
-        -*) mapfile -t COMPREPLY < <(compgen -W '--section --tenant --context --as-is --hex --maps --help' -- "$word") ;;
+        -*) mapfile -t COMPREPLY < <(compgen -W '--section --tenant --context --as-is --hex --maps --run --help' -- "$word") ;;
         *) _bpf_host_files '' "$word" ;;
     esac
 }

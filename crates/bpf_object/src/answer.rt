@@ -5,13 +5,14 @@ use crate::asked::{Asked, Form, asked_of};
 use crate::events::{hex_of, write_events, write_shapes};
 use crate::fault::{Fault, written};
 use crate::file::bytes_at;
+use crate::runs::{Accepted, print_runs};
 use object_text::{ObjectText, text_of};
 use std::alloc::{AllocError, Global};
 use std::io::Write;
 use std::rt::Files;
 use terminal_text::quoted;
 
-/// Does what words ask for: prints what an object file has.
+/// Does what words ask for: prints what an object file has, or what runs of it return.
 pub fn answer<R, W>(rt: &R, words: &[String], output: &mut W) -> Result<(), Fault>
 where
     R: AllocGlobal + Files,
@@ -21,7 +22,7 @@ where
     let asked = asked_of(alloc, words)?;
     let bytes = bytes_at(rt, asked.path)?;
     let object = object_of(alloc, &asked, bytes.as_slice())?;
-    match asked.form {
+    match &asked.form {
         Form::Events => {
             let hex = hex_text(alloc, &asked, bytes.as_slice(), &object)?;
             written(write_events(
@@ -38,6 +39,15 @@ where
             written(writeln!(output, "{hex}"))
         }
         Form::Maps => written(write_shapes(&object, output)),
+        Form::Runs(fronts) => {
+            let text = accepted_text(alloc, &asked, bytes.as_slice(), &object)?;
+            let accepted = Accepted {
+                text: text.as_slice(),
+                maps: object.maps.as_slice(),
+                context_size: asked.context,
+            };
+            print_runs(alloc, &accepted, fronts.as_slice(), output)
+        }
     }
 }
 

@@ -2,6 +2,8 @@
 
 use crate::fault::Fault;
 use clap::{Arg, ArgAction, ArgMatches, Command};
+use engines::check::check_request_of;
+use host_types::Bytes;
 use std::alloc::{AllocError, Global};
 use terminal_text::quoted;
 
@@ -21,7 +23,7 @@ pub struct Asked<'a> {
 }
 
 /// What is printed of a program.
-#[derive(Clone, Copy, Debug, PartialEq, Eq)]
+#[derive(Debug, Drop)]
 pub enum Form {
     /// Events of a host file.
     Events,
@@ -29,6 +31,8 @@ pub enum Form {
     Hex,
     /// The shapes of its maps.
     Maps,
+    /// What it returns when it is run on contexts, of each of which the first bytes are given.
+    Runs(Vec<Bytes>),
 }
 
 /// What words ask for, the program's name being the first of them. All that makes no request, help among it, is usage.
@@ -39,23 +43,48 @@ pub fn asked_of<'a>(alloc: Global, words: &'a [String]) -> Result<Asked<'a>, Fau
     let Some(path) = matches.get_str("FILE") else {
         return Err(Fault::Usage(String::from_str(alloc, "no FILE is given")?));
     };
-    let form = match (matches.get_flag("hex"), matches.get_flag("maps")) {
-        (false, false) => Form::Events,
-        (true, false) => Form::Hex,
-        (false, true) => Form::Maps,
-        (true, true) => {
-            let said = String::from_str(alloc, "--hex and --maps can't both be given")?;
-            return Err(Fault::Usage(said));
-        }
-    };
+    let context = number_of(alloc, &matches, "context")?;
     Ok(Asked {
         path,
         section: matches.get_str("section"),
         tenant: number_of(alloc, &matches, "tenant")?,
-        context: number_of(alloc, &matches, "context")?,
+        context,
         as_is: matches.get_flag("as-is"),
-        form,
+        form: form_of(alloc, &matches, context)?,
     })
+}
+
+/// The form that words ask for, of a program whose contexts have so many bytes.
+fn form_of(alloc: Global, matches: &ArgMatches<'_>, context: u32) -> Result<Form, Fault> {
+    if let Some(words) = matches.get_strs("run") {
+        return Ok(Form::Runs(fronts_of(alloc, words, context)?));
+    }
+    match (matches.get_flag("hex"), matches.get_flag("maps")) {
+        (false, false) => Ok(Form::Events),
+        (true, false) => Ok(Form::Hex),
+        (false, true) => Ok(Form::Maps),
+        (true, true) => {
+            let said = String::from_str(alloc, "--hex and --maps can't both be given")?;
+            Err(Fault::Usage(said))
+        }
+    }
+}
+
+/// The first bytes of contexts of a size, in hex.
+fn fronts_of(alloc: Global, words: &[&str], size: u32) -> Result<Vec<Bytes>, Fault> {
+    let mut fronts = Vec::new(alloc);
+    for word in words {
+        // `check` says what is wrong with hex text; it needs no maps for that.
+        let front = check_request_of(alloc, word, &[], "0")?.text;
+        let length = front.as_slice().len();
+        if length > size as usize {
+            return Err(Fault::Usage(format!(in alloc;
+                "HEX has {length} bytes, and the context {size}; --context says how many it has"
+            )?));
+        }
+        fronts.push(front)?;
+    }
+    Ok(fronts)
 }
 
 /// The number that an option has, or 0 where it isn't given.
@@ -92,7 +121,9 @@ fn command<'a>(alloc: Global) -> Result<Command<'a>, AllocError> {
         .required(true)
         .action(ArgAction::Set);
     Command::new(alloc, NAME)
-        .about("prints the events of a host file that load a program from an object file")
+        .about(
+            "prints the events of a host file that load a program from an object file, or runs it",
+        )
         .arg(file)?
         .arg(option(
             alloc,
@@ -117,7 +148,23 @@ fn command<'a>(alloc: Global) -> Result<Command<'a>, AllocError> {
             alloc,
             "maps",
             "prints the name and the shape V:E of each map",
-        ))
+        ))?
+        .arg(run(alloc)?)
+}
+
+/// The contexts on which the program is run. Options that say how it is printed are of no use then.
+fn run<'a>(alloc: Global) -> Result<Arg<'a>, AllocError> {
+    option(
+        alloc,
+        "run",
+        "HEX",
+        "runs the program on a context that begins with these bytes, once for each --run",
+    )
+    .action(ArgAction::Append)
+    .conflicts_with("tenant")?
+    .conflicts_with("as-is")?
+    .conflicts_with("hex")?
+    .conflicts_with("maps")
 }
 
 /// An option that has a value.

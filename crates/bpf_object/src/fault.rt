@@ -15,6 +15,9 @@ pub enum Fault {
     /// Its text isn't lowered, for which `lower` has these words: status 1.
     #[error("{0}")]
     NotLowered(String),
+    /// The host refused what was printed last: status 1. It has all frames that a host may have.
+    #[error("frames or memory ran out; make the maps smaller")]
+    NotRun,
     #[error("out of memory")]
     OutOfMemory(AllocError),
     #[error("{0}")]
@@ -40,6 +43,7 @@ impl From<FileFault> for Fault {
         match fault {
             FileFault::OutOfMemory(error) => Fault::OutOfMemory(error),
             FileFault::Write(error) => Fault::Write(error),
+            FileFault::Usage(said) => Fault::Usage(said),
             other => Fault::Lowering(other),
         }
     }
@@ -52,11 +56,11 @@ impl<T: Drop> From<AllocFailed<T>> for Fault {
     }
 }
 
-/// The status of an outcome: 1 for a refused object file, 2 for what else failed.
+/// The status of an outcome: 1 for a refused object file or run, 2 for what else failed.
 pub fn status_of(outcome: &Result<(), Fault>) -> u8 {
     match outcome {
         Ok(()) => 0,
-        Err(Fault::Refused(..) | Fault::NotLowered(_)) => 1,
+        Err(Fault::Refused(..) | Fault::NotLowered(_) | Fault::NotRun) => 1,
         Err(_) => 2,
     }
 }

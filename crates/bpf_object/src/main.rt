@@ -1,5 +1,6 @@
 //! The program `bpf_object`: the lines of a host file that load a program from an object file, as `clang -target bpf -c` makes
-//! it, lowered for the verifier. With no words it answers each line of the standard input, whose words spaces set apart.
+//! it, lowered for the verifier; or what runs of it return. With no words it answers each line of the standard input, whose
+//! words spaces set apart.
 #![tactic(auto)]
 
 mod accepted;
@@ -8,6 +9,7 @@ mod asked;
 mod events;
 mod fault;
 mod file;
+mod runs;
 
 use answer::answer;
 use fault::{Fault, status_of, write_fault, written};
