@@ -31,6 +31,7 @@ pub mod Following
 pub mod Asking
 pub mod Leading
 pub mod Advancing
+pub mod Private
 pub mod Ahead
 pub mod Beginning
 pub mod OnMaps
