@@ -27,9 +27,10 @@ const HOME: u64 = 0;
 /// The word while the memory is out.
 const OUT: u64 = 1;
 
-/// How many pauses a loser makes before each further try, before it sleeps; eight tries take some 100 microseconds. While a loser
-/// pauses it doesn't look at the word, so that the word's cache line stays with the thread that takes turns one after the other.
-const PAUSES: [u32; 8] = [64, 128, 256, 512, 512, 512, 512, 512];
+/// How many pauses a loser makes before each further try, before it sleeps; eight tries take some 300 microseconds. While a loser
+/// pauses it doesn't look at the word, so that the word's cache line, and those of the memory, stay with the thread that takes turns
+/// one after the other: moving them to another thread takes as long as dozens of turns.
+const PAUSES: [u32; 8] = [256, 512, 1024, 1024, 1024, 1024, 1024, 1024];
 
 type Token = atomic_table::Seat<Option<Boxed>, View>;
 
