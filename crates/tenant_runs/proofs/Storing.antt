@@ -1,4 +1,4 @@
--- A store of a run in its loop: to a page that may share its frame, and to one that has its own.
+-- A store of a run in its loop.
 use Rattle.std.proofs.Common.{◌≡◌, ◌≤◌, ◌+◌, ◌*◌, ◌%◌, ◌<◌, inl, inr, ℕ, Bool, true, false, List, [], length, take, drop, Option, Some, None, refl, sym, ap, ◌∙◌, arith}
 use Rattle.std.proofs.lemmas.Bool.{cases_lt}
 use Rattle.std.proofs.lemmas.List.{get_or_past, length-drop, length-take}
@@ -24,19 +24,6 @@ use Rattle.interp.specs.StandsFor.{AreAmong}
 use Rattle.tenant_runs.specs.Storing.{HasStoreFrames}
 use Rattle.tenant_runs.proofs.Rooms.{in_page, some_bytes}
 use Rattle.tenant_runs.proofs.Pinning.{own_pins, pages_after, stored_pays}
-
--- ---- a page that shares no frame
-
--- its break changes nothing
-pub own_broken : (running : Bool) (s : Sharing) (i : ℕ) → is_shared_page (state_at s i) ≡ false → broken_for_run running s i ≡ s
-unfolding broken_for_run
-own_broken false s i own = broken-own s i own
-own_broken true s i own = by-own s i own
-
--- a part whose pins stay is pinned as it was
-pub own_part : (memory new : MemoryState) (t : ℕ) (after : TenantPart) → new.sharing ≡ memory.sharing → after.pins ≡ (part memory t).pins → after ≡ with_pins_of new.sharing t after
-own_part memory new t after same kept =
-    ap (λ (pins : List Bool). record after { pins = pins }) (kept ∙ own_pins memory t ∙ ap (λ (s : Sharing). part_of s.pins (t * 2048) 2048) (sym same))
 
 -- ---- the room
 
@@ -107,14 +94,3 @@ module _ (memory : MemoryState) (t m at : ℕ) (size : Size) (reads : ReadsAs me
       let least = pays has.running total writes later (part new t) marked among pins pages in
       let enough = has.frames in
       record { running = ap (λ (one : TenantPart). one.running) owned ∙ has.running; frames = omega (arith, least, enough, have) }
-
--- so has one after a store that takes nothing and pins nothing
-pub room_same : (memory new : MemoryState) (t m at number : ℕ) (size : Size) → part new t ≡ with_pins_of new.sharing t (part_stored (part memory t) m at (byte_count size) number) → new.sharing ≡ memory.sharing → have_of new ≡ have_of memory → KeepsRoom (HasStoreFrames t) memory m new
-room_same memory new t m at number size owned same have total writes later marked among has =
-    let pins : (part new t).pins ≡ (part memory t).pins = own_pins new t ∙ ap (λ (s : Sharing). part_of s.pins (t * 2048) 2048) same ∙ sym (own_pins memory t) in
-    let pages : (k : ℕ) → pages_of_map (part new t) k ≡ pages_of_map (part memory t) k =
-    λ k. ap (λ (one : TenantPart). pages_of_map one k) owned ∙ pages_stored (part memory t) m at number size k in
-    let kept = needed_kept total later (part new t) (part memory t) pins pages in
-    let falls = needed_falls (1 + total) total writes later (part memory t) (omega arith) among in
-    let enough = has.frames in
-    record { running = ap (λ (one : TenantPart). one.running) owned ∙ has.running; frames = omega (arith, kept, falls, enough, have) }

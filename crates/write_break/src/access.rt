@@ -1,8 +1,11 @@
-ghost use Rattle.std.specs.Prelude.{◌≡◌, ◌⊎◌, ◌+◌, ◌/◌, ◌<◌, ◌≤◌, ◌%◌, length, true};
+ghost use Rattle.std.specs.Prelude.{◌≡◌, ◌⊎◌, ◌+◌, ◌*◌, ◌/◌, ◌<◌, ◌≤◌, ◌%◌, length, true};
 ghost use Rattle.host_types.specs.Bytes.{number_of, bytes_of, part_of, with_part};
+ghost use Rattle.host_types.specs.Pages.{page_index_of};
+ghost use Rattle.host_types.specs.Pins.{broken_for_run};
+ghost use Rattle.host_types.specs.Sharing.{break_cost};
 ghost use Rattle.frame_arena.specs.Pages.{IsAccessSize};
 ghost use Rattle.page_table.specs.State.{part, map_bytes, have_of};
-ghost use Rattle.page_table.specs.Changes.{part_written, OtherTenantsUnchanged, AreMapsKeptBut, KeepsSettings};
+ghost use Rattle.page_table.specs.Changes.{part_written, with_pins, OtherTenantsUnchanged, AreMapsKeptBut, KeepsSettings, IsPageOf, IsOwn};
 ghost use Rattle.write_break.specs.Stores.{touched, part_stored, with_pins_of, stored_sharing, store_frames, IsStored};
 
 use host_types::limits::PAGE_SIZE;
@@ -65,6 +68,8 @@ pub fn needs(memory: &Memory, tenant: u32, map: MapNo, at: u32, len: u32) -> u32
 
 /// Writes the lowest `size` bytes of a number to a tenant's map from the byte `at` on, the lowest
 /// first. A page that shares its frame is taken out before, and pinned where the tenant has an open run.
+/// It is part of each caller, so that of a width that one knows it is one write, after one look at the page.
+#[inline(always)]
 pub fn store(memory: &mut Memory, tenant: u32, map: MapNo, at: u32, size: u32, value: u64)
     requires size { IsAccessSize size }
     requires within { at + size ≤ length (map_bytes (part memory.old tenant) map) }
@@ -84,9 +89,28 @@ pub fn store(memory: &mut Memory, tenant: u32, map: MapNo, at: u32, size: u32, v
     ensures settings { KeepsSettings memory.old memory.new }
 {
     let page = page_of(tenant, map, at);
-    let by_run = memory.is_running(tenant);
-    memory.take_out_as(page, by_run);
+    take_out_shared(memory, page);
     memory.put_number(page, at % PAGE_SIZE, size, value);
+}
+
+/// Takes a page out if it shares its frame, as `take_out` does: most pages have a frame of their own, and are only looked at.
+#[inline(always)]
+fn take_out_shared(memory: &mut Memory, page: Page)
+    requires there { IsPageOf memory.old page }
+    requires room { break_cost memory.old.sharing (page_index_of page) ≤ have_of memory.old }
+    ensures maps { memory.new.maps ≡ memory.old.maps }
+    ensures part { part memory.new page.tenant ≡
+        with_pins (part_of memory.new.sharing.pins (page.tenant * 2048) 2048) (part memory.old page.tenant) }
+    ensures others { OtherTenantsUnchanged page.tenant memory.old memory.new }
+    ensures sharing { memory.new.sharing ≡
+        broken_for_run (part memory.old page.tenant).running memory.old.sharing (page_index_of page) }
+    ensures own { IsOwn memory.new page }
+    ensures have { have_of memory.new + break_cost memory.old.sharing (page_index_of page) ≡ have_of memory.old }
+    ensures settings { KeepsSettings memory.old memory.new }
+{
+    if memory.entry(page).protected {
+        memory.take_out(page);
+    }
 }
 
 /// Writes bytes to a tenant's map from the byte `at` on. Each of their pages that shares its frame is

@@ -1,12 +1,13 @@
 use Rattle.std.proofs.Common.{◌≡◌, ◌+◌, ◌*◌, ◌/◌, ◌%◌, ◌<◌, ◌≤◌, length, arith}
 use Rattle.host_types.specs.Bytes.{bytes_of}
 use Rattle.host_types.proofs.LittleEndian.{length-bytes_of}
+use Rattle.page_table.specs.State.{part}
 use Rattle.write_break.proofs.Numbers.{access_in_page, some_size}
 use Rattle.write_break.proofs.Stores.{cost-one, stored-once}
 use Rattle.write_break.proofs.access.store.Goals as goal
 
-pub take_out_as-requires-clause-room : goal.take_out_as-requires-clause-room
-take_out_as-requires-clause-room c =
+pub take_out_shared-requires-clause-room : goal.take_out_shared-requires-clause-room
+take_out_shared-requires-clause-room c =
     let in_page = access_in_page c.args.at c.args.size c.requires.size c.requires.aligned in
     let cost = cost-one c.args.memory.now.sharing c.args.tenant c.args.map c.args.at c.args.size (some_size c.args.size c.requires.size) in_page in
     rw (c.page_of-page.ensures) (omega (arith, c.requires.room, cost))
@@ -20,9 +21,9 @@ returns c =
     let within = access_in_page c.args.at c.args.size c.requires.size c.requires.aligned in
     let some : 0 < length (bytes_of c.args.size c.args.value) = omega (arith, long, least) in
     let in_page : c.args.at % 4096 + length (bytes_of c.args.size c.args.value) ≤ 4096 = omega (arith, long, within) in
-    let out = c.take_out_as.ensures in
+    let out = c.take_out_shared.ensures in
     let put = c.put_number.ensures in
-    let stored = stored-once c.is_running-by_run.result c.args.memory.now c.take_out_as.new.self c.put_number.new.self c.args.tenant c.args.map c.args.at (bytes_of c.args.size c.args.value) some in_page
+    let stored = stored-once (part c.args.memory.now c.args.tenant).running c.args.memory.now c.take_out_shared.new.memory c.put_number.new.self c.args.tenant c.args.map c.args.at (bytes_of c.args.size c.args.value) some in_page
     (record {
       owned = rw page at out.part;
       others = rw page at out.others;
@@ -45,7 +46,7 @@ returns c =
       length = stored.sized;
       other_maps = stored.other_maps;
       others = stored.others;
-      sharing = rw (long, c.is_running-by_run.ensures) at stored.sharing;
+      sharing = rw long at stored.sharing;
       have = rw long at stored.have;
       settings = stored.settings;
     }

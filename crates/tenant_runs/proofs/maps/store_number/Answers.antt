@@ -1,5 +1,5 @@
 use Rattle.tenant_runs.proofs.Storing.{flat_there, room_enough, room_kept}
-use Rattle.tenant_runs.proofs.maps.store_apart.Goals as goal
+use Rattle.tenant_runs.proofs.maps.store_number.Goals as goal
 
 pub store-requires-clause-room : goal.store-requires-clause-room
 store-requires-clause-room c =
