@@ -165,6 +165,10 @@ impl<'a, R: Clock, E: Write> Plans<'a, R, E> {
 impl<'a, R: Clock, E: Write> Gate for Plans<'a, R, E> {
     fn at<T: Wait>(&self, _rt: &T, _tenant: u32, _slot: u32) {}
 
+    fn is_open(&self) -> bool {
+        true
+    }
+
     fn pass<T: Wait>(&self, rt: &T, passed: Passed) {
         if !self.is_watched {
             return;

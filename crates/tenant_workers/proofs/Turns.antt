@@ -1,5 +1,5 @@
 -- Turns that a seat made, one after the other.
-use Rattle.std.proofs.Common.{◌≡◌, List, [], ◌∷◌, ◌++◌, append_assoc, append-nil, ap, refl, sym, ◌∙◌}
+use Rattle.std.proofs.Common.{[], ◌∷◌, ◌++◌, append_assoc, append-nil, ap, sym, ◌∙◌}
 use Rattle.page_table.specs.State.{MemoryState}
 use Rattle.turn.specs.Seats.{SeatState}
 use Rattle.tenant_workers.specs.Calls.{HasChanged, HasGoneOn}

@@ -6,6 +6,11 @@ pub trait Gate {
     /// Comes before each instruction of a run, with the tenant's number and the slot.
     fn at<R: Wait>(&self, rt: &R, tenant: u32, slot: u32);
 
+    /// Whether `at` does nothing. Then steps that need no turn are made many at once, without it.
+    fn is_open(&self) -> bool {
+        false
+    }
+
     /// Comes when a plan's threads have passed something, for those who wait. It changes no answer.
     fn pass<R: Wait>(&self, _rt: &R, _passed: Passed) {}
 }
@@ -28,4 +33,8 @@ pub struct Open;
 
 impl Gate for Open {
     fn at<R: Wait>(&self, _rt: &R, _tenant: u32, _slot: u32) {}
+
+    fn is_open(&self) -> bool {
+        true
+    }
 }

@@ -1,7 +1,8 @@
-ghost use Rattle.std.specs.Prelude.{◌≡◌, ◌+◌, ◌≤◌, ℕ, Some};
+ghost use Rattle.std.specs.Prelude.{◌≡◌, ◌+◌, ◌<◌, ◌≤◌, ℕ, Some};
 ghost use Rattle.bpf_decode.specs.Text.{instructions_of};
 ghost use Rattle.interp.specs.Machine.{MachineState, Next, Exits, step};
 ghost use Rattle.interp.specs.Runs.{Reaches};
+ghost use Rattle.interp.specs.StandsFor.{StandsFor, FollowsSteps};
 ghost use Rattle.tenant_runs.specs.UnderWay.{IsUnderWay, IsAsking};
 ghost use Rattle.turn.specs.Seats.{IsIdle, own_part};
 ghost use Rattle.tenant_workers.specs.Calls.{HasGoneOn, IsSameSeat};
@@ -15,7 +16,7 @@ use turn::Seat;
 use verifier::Verified;
 
 /// Makes all steps that are left of a run of the seat's tenant. Registers, context and stack are the
-/// worker's own; what else the run asks is done in one turn, and the gate is called before each step,
+/// worker's own; what else the run asks is done in one turn, and a gate that isn't open is called before each step,
 /// between the turns.
 #[tactic(auto, using(crate::proofs::Turns::gone_nowhere))]
 pub(crate) fn drive(
@@ -37,8 +38,7 @@ pub(crate) fn drive(
 {
     program.facts();
     loop {
-        gate.at(rt, seat.tenant(), run.slot());
-        match run.next(program) {
+        match go_on(rt, seat.tenant(), program, run, gate) {
             Need::Private => {}
             Need::Ended(ret) => {
                 return RunReply {
@@ -49,6 +49,23 @@ pub(crate) fn drive(
             need => fulfil(shared, rt, seat, program, run, need),
         }
     }
+}
+
+/// Makes the next step, after a call of the gate. Where that is open, it makes all steps up to the next one that asks something
+/// or is the last.
+#[tactic(auto, using(crate::proofs::Driven::one_step))]
+fn go_on(rt: &impl Wait, tenant: u32, program: &Verified, run: &mut Run, gate: &impl Gate) -> Need
+    requires running { (s : MachineState) × StandsFor program.now run.old s }
+    ensures follows { (s : MachineState) → StandsFor program.now run.old s
+        → (n : ℕ) × FollowsSteps program.now s n result run.new × (run.new.steps ≡ run.old.steps + n) }
+    ensures further { run.old.steps < run.new.steps }
+{
+    program.facts();
+    if gate.is_open() {
+        return run.advance(program, program.instructions());
+    }
+    gate.at(rt, tenant, run.slot());
+    run.next(program)
 }
 
 /// The one turn in which what a run asks is done and answered.
