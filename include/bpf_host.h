@@ -15,15 +15,18 @@
  * the order in which they are tested; docs/HOST.md says when each comes.
  *     a rule           1 to 25: the program breaks this rule of the verifier, at the slot `refused->slot`
  *     NO_FRAMES        more frames are needed than may be had: `refused->need` and `refused->have`
- *     OUT_OF_MEMORY    nothing else is refused; but bpf_host_load returns it before 11 to 25 where there is no memory to verify the text
+ *     OUT_OF_MEMORY    nothing else is refused; but bpf_host_load returns it before 11 to 25 where there is no memory to verify the text,
+ *                      and bpf_host_read_object before 103 and a rule
  *     CLOSED           the handle is closed
  *     OPEN_ALREADY     the handle is open already (bpf_host_new)
  *     WRONG_LENGTH     the buffer has another length than the value (bpf_host_lookup) or is too short (bpf_host_lower, bpf_host_explain), or the
  *                      contexts can't have one size (bpf_host_run_many)
+ *     BAD_OBJECT       the object file isn't taken: `object->why` says why (bpf_host_read_object)
+ *     HAS_MAPS         the tenant has a map already (bpf_host_load_object)
  * bpf_host_lookup and bpf_host_update take no memory, and bpf_host_begin and _run only where the context is longer than those of the tenant's
  * runs before.
  * A call that doesn't return 0 changed nothing: neither the host nor what the caller's pointers lead to, but for the members of
- * `*refused` that the number speaks of (slot; need and have), and `*written` where a buffer is too short.
+ * `*refused` that the number speaks of (slot; need and have), `*written` where a buffer is too short, and `object->why`.
  *
  * WHAT THE CALLER OWES AT EACH CALL. No proof covers it.
  *   - No pointer is null, and each leads to an object of its type that is initialised: a `struct bpf_host` to all zeros at first, a `bool`
@@ -48,7 +51,7 @@ extern "C" {
 #endif
 
 /* The version of this header. It is that of the library where bpf_host_version returns the same. */
-#define BPF_HOST_VERSION 1
+#define BPF_HOST_VERSION 2
 
 /* A handle: {0} is closed. */
 struct bpf_host {
@@ -115,7 +118,9 @@ enum {
     BPF_HOST_TOO_MANY_PROGRAMS = 45,
     BPF_HOST_CLOSED = 100,
     BPF_HOST_OPEN_ALREADY = 101,
-    BPF_HOST_WRONG_LENGTH = 102
+    BPF_HOST_WRONG_LENGTH = 102,
+    BPF_HOST_BAD_OBJECT = 103,
+    BPF_HOST_HAS_MAPS = 104
 };
 
 /* What a refusal says beside its number. */
@@ -135,6 +140,26 @@ struct bpf_host_run {
 struct bpf_host_shape {
     uint32_t value_size;
     uint32_t entries;
+};
+
+/* A map of an object file, one that it defines or that its global variables are in. All values begin as zeros, but value 0 as the
+ * `first_len` bytes of `first` where these aren't 0 but a whole value. */
+struct bpf_host_object_map {
+    struct bpf_host_shape shape;
+    uint32_t first_len;
+    char name[64]; /* UTF-8 and zeros; a longer name is cut */
+    uint8_t first[4096];
+};
+
+/* A program of an object file, its functions in one text and its loops unrolled, and its maps by number. It has 67180 bytes, so keep it static or on
+ * the heap. What is after its text and its last map stays as it was. */
+struct bpf_host_object {
+    uint32_t context_size;
+    uint32_t text_len;
+    uint32_t maps_len;
+    uint8_t text[32768];
+    struct bpf_host_object_map maps[8];
+    char why[1024]; /* after a refusal why, with the line of C: UTF-8 and zeros; more is cut */
 };
 
 /* The counters, by the names of the kernel's manual. */
@@ -251,6 +276,41 @@ uint32_t bpf_host_lower(const uint8_t *text, size_t text_len, const struct bpf_h
 uint32_t bpf_host_explain(const uint8_t *text, size_t text_len, const struct bpf_host_shape *shapes, size_t shapes_len, uint32_t context_size,
                           char *explained, size_t explained_len, size_t *written);
 
+/* CALLS FOR AN OBJECT FILE, as `clang -g -O2 -target bpf -c` makes it. */
+
+/* Reads an object file, makes one text of the function that `name` chooses (its own name, or that of its section; no bytes: the only function) and
+ * of those that it calls, lowers it as bpf_host_lower does, and writes the text that the verifier accepts, and its maps. No handle is needed. A
+ * rule's slot is that of the text before it was lowered. Refused: BAD_CONTEXT, BAD_OBJECT, a rule, OUT_OF_MEMORY, and then `object->why` has the
+ * words of the program `bpf_object`, and nothing else of `*object` changed. */
+uint32_t bpf_host_read_object(const uint8_t *file, size_t file_len, const char *name, size_t name_len, uint32_t context_size,
+                              struct bpf_host_object *object, struct bpf_host_refused *refused);
+
+/* Makes the maps of an object that was read, and loads its program, for a tenant that has no map, since a text names maps by number. A further
+ * program of the same file is loaded by bpf_host_load, from the text that is read under its name: its maps have the same numbers. What is refused
+ * leaves no map. Refused: HAS_MAPS, and what bpf_host_create_map, bpf_host_update and bpf_host_load refuse. */
+static inline uint32_t bpf_host_load_object(struct bpf_host *host, uint32_t tenant, const struct bpf_host_object *object, bool mergeable,
+                                            uint32_t *program, struct bpf_host_refused *refused)
+{
+    struct bpf_host_shape shape;
+    uint32_t code = 0, made = 0, number;
+    for (uint32_t map = 0; map < 8; map++)
+        if (bpf_host_shape(host, tenant, map, &shape) == 0)
+            return BPF_HOST_HAS_MAPS;
+    while (code == 0 && made < object->maps_len) {
+        const struct bpf_host_object_map *map = &object->maps[made];
+        code = bpf_host_create_map(host, tenant, map->shape.value_size, map->shape.entries, mergeable, &number, refused);
+        if (code == 0)
+            made++;
+        if (code == 0 && map->first_len != 0)
+            code = bpf_host_update(host, tenant, number, 0, map->first, map->first_len, refused);
+    }
+    if (code == 0)
+        code = bpf_host_load(host, tenant, object->text, object->text_len, object->context_size, program, refused);
+    while (code != 0 && made > 0)
+        bpf_host_drop_map(host, tenant, --made);
+    return code;
+}
+
 /* The name of what a call returned. */
 static inline const char *bpf_host_code_name(uint32_t code)
 {
@@ -294,6 +354,8 @@ static inline const char *bpf_host_code_name(uint32_t code)
     case BPF_HOST_CLOSED: return "Closed";
     case BPF_HOST_OPEN_ALREADY: return "OpenAlready";
     case BPF_HOST_WRONG_LENGTH: return "WrongLength";
+    case BPF_HOST_BAD_OBJECT: return "BadObject";
+    case BPF_HOST_HAS_MAPS: return "HasMaps";
     default: return "Unknown";
     }
 }

@@ -58,5 +58,6 @@ void test_rows_of_merging(void);
 void test_refusals(void);
 void test_handles(void);
 void test_texts(void);
+void test_objects(void);
 
 #endif

@@ -98,6 +98,7 @@ int main(void)
     test_refusals();
     test_handles();
     test_texts();
+    test_objects();
     printf("%u checks, %u failed\n", checks, failures);
     return failures != 0;
 }

@@ -40,6 +40,25 @@ pub struct Shape {
 }
 
 #[repr(C)]
+#[derive(Clone, Copy)]
+pub struct ObjectMap {
+    pub shape: Shape,
+    pub first_len: u32,
+    pub name: [u8; 64],
+    pub first: [u8; 4096],
+}
+
+#[repr(C)]
+pub struct Object {
+    pub context_size: u32,
+    pub text_len: u32,
+    pub maps_len: u32,
+    pub text: [u8; 32768],
+    pub maps: [ObjectMap; 8],
+    pub why: [u8; 1024],
+}
+
+#[repr(C)]
 #[derive(Clone, Copy, Default)]
 pub struct Counters {
     pub full_scans: u64,
@@ -155,5 +174,14 @@ extern "C" {
         explained: *mut u8,
         explained_len: usize,
         written: *mut usize,
+    ) -> u32;
+    pub fn bpf_host_read_object(
+        file: *const u8,
+        file_len: usize,
+        name: *const u8,
+        name_len: usize,
+        context_size: u32,
+        object: *mut Object,
+        refused: *mut Refused,
     ) -> u32;
 }

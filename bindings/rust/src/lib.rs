@@ -64,11 +64,13 @@
 
 mod ffi;
 mod host;
+mod object;
 mod refused;
 mod tenant;
 mod text;
 
 pub use host::{Counters, Host, Options, Setting};
+pub use object::{Object, ObjectMap, ObjectRefused};
 pub use refused::{Frames, Refused};
 pub use tenant::{Map, OpenRun, Program, Run, Shape, Tenant};
 pub use text::{explain, lower, verify};

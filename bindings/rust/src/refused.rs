@@ -6,7 +6,8 @@ use std::fmt;
 /// A refusal: its number of docs/HOST.md, and what belongs to it. A refused call changed nothing.
 #[derive(Clone, Copy, Debug, PartialEq, Eq)]
 pub struct Refused {
-    /// 1 to 25 are rules of the verifier, 31 to 45 refusals of the host, 102 is a length that no call takes.
+    /// 1 to 25 are rules of the verifier, 31 to 45 refusals of the host, 102 is a length that no call takes, 103 an
+    /// object file that isn't taken, 104 a tenant that has maps before an object's are made.
     pub code: u32,
     /// At 1 to 25, the slot of the instruction that breaks the rule.
     pub slot: Option<u32>,
@@ -24,7 +25,19 @@ pub struct Frames {
 /// The number of `NoFrames`.
 const NO_FRAMES: u32 = 31;
 
+/// The number of `HasMaps`.
+const HAS_MAPS: u32 = 104;
+
 impl Refused {
+    /// The refusal of an object's maps for a tenant that has a map.
+    pub(crate) fn has_maps() -> Refused {
+        Refused {
+            code: HAS_MAPS,
+            slot: None,
+            frames: None,
+        }
+    }
+
     /// What a call answered: nothing where the code is 0.
     pub(crate) fn check(code: u32, more: ffi::Refused) -> Result<(), Refused> {
         if code == 0 {
@@ -80,6 +93,8 @@ impl Refused {
             44 => "PagesShared",
             45 => "TooManyPrograms",
             102 => "BadLength of a buffer",
+            103 => "BadObject",
+            104 => "HasMaps",
             _ => "an unknown refusal",
         }
     }

@@ -2,6 +2,7 @@
 
 use crate::ffi;
 use crate::host::Host;
+use crate::object::Object;
 use crate::refused::Refused;
 
 /// A tenant of a host.
@@ -116,6 +117,45 @@ impl<'h> Tenant<'h> {
             tenant: *self,
             number,
         })
+    }
+}
+
+impl<'h> Tenant<'h> {
+    /// Makes the maps of an object file and loads its program, for a tenant that has no map, since the text names maps by number. What is
+    /// refused leaves no map. `map` finds the maps afterwards; `load` loads further programs of the same file.
+    pub fn load_object(&self, object: &Object, mergeable: bool) -> Result<Program<'h>, Refused> {
+        if (0..8).any(|number| self.map(number).is_ok()) {
+            return Err(Refused::has_maps());
+        }
+        let mut made = Vec::new();
+        let loaded = self.make_and_load(object, mergeable, &mut made);
+        if loaded.is_err() {
+            for map in made {
+                // No program names it, and no run is open.
+                let _ = map.remove();
+            }
+        }
+        loaded
+    }
+
+    fn make_and_load(
+        &self,
+        object: &Object,
+        mergeable: bool,
+        made: &mut Vec<Map<'h>>,
+    ) -> Result<Program<'h>, Refused> {
+        for of_object in &object.maps {
+            let Shape {
+                value_size,
+                entries,
+            } = of_object.shape;
+            let map = self.create_map(value_size, entries, mergeable)?;
+            made.push(map);
+            if let (Some(map), false) = (made.last(), of_object.first.is_empty()) {
+                map.update(0, &of_object.first)?;
+            }
+        }
+        self.load(&object.text, object.context_size)
     }
 }
 

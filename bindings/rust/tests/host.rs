@@ -1,6 +1,6 @@
 //! What a program in Rust sees of a host: values, refusals and counters of docs/HOST.md and docs/MERGING.md.
 
-use bpf_host::{Counters, Frames, Host, Options, Refused, Run, Setting, Shape};
+use bpf_host::{Counters, Frames, Host, Object, Options, Refused, Run, Setting, Shape};
 use bpf_host::{explain, lower, verify};
 
 /// r0 = 42, exit.
@@ -244,4 +244,40 @@ fn a_text_is_explained_in_lines() {
     assert!(refused.starts_with("refused 13 FallsOff at 0\n"), "{refused}");
     let long = [text(ANSWER)[..8].repeat(4095), text(ANSWER)[8..].to_vec()].concat();
     assert!(explain(&long, &[], 0).unwrap().lines().count() > 4096);
+}
+
+/// An object file of crates/bpf_object, whose rows say what is in it.
+fn file(name: &str) -> Vec<u8> {
+    let folder = concat!(env!("CARGO_MANIFEST_DIR"), "/../../crates/bpf_object/data");
+    std::fs::read(format!("{folder}/{name}")).unwrap()
+}
+
+#[test]
+fn an_object_file_is_loaded_with_its_maps() {
+    let object = Object::read(&file("globals.o"), "", 0).unwrap();
+    let names: Vec<&str> = object.maps.iter().map(|map| map.name.as_str()).collect();
+    assert_eq!(names, [".data", ".rodata", ".bss"]);
+    let host = host(8, 1);
+    let program = host.tenant(0).load_object(&object, true).unwrap();
+    let (ret, steps) = (134_678_021, 6);
+    assert_eq!(program.run(&[]), Ok(Run { ret, steps }));
+    let first = host.tenant(0).map(1).unwrap().get(0);
+    assert_eq!(first.as_ref(), Ok(&object.maps[1].first));
+    let again = host.tenant(0).load_object(&object, true);
+    assert_eq!(again.err().unwrap().name(), "HasMaps");
+}
+
+#[test]
+fn a_refused_object_leaves_no_map_and_says_why() {
+    let object = Object::read(&file("globals.o"), "", 0).unwrap();
+    let small = host(3, 1);
+    let refused = small.tenant(0).load_object(&object, true).err().unwrap();
+    assert_eq!(refused.name(), "NoFrames");
+    assert_eq!(code(small.tenant(0).map(0).map(drop)), 34);
+    let refused = Object::read(&file("both.o"), "", 0).unwrap_err();
+    assert_eq!(refused.refused.name(), "BadObject");
+    assert!(refused.why.contains("there are several functions, "));
+    let refused = Object::read(&file("unset.o"), "", 0).unwrap_err();
+    assert_eq!(refused.refused.slot, Some(0));
+    assert!(refused.to_string().starts_with("refused 14 UnsetRegister at 0\n"));
 }

@@ -3,3 +3,5 @@ pub mod Pointers
 pub mod Answering
 pub mod Buffers
 pub mod Textual
+pub mod WrittenMaps
+pub mod Reasons

@@ -4,3 +4,5 @@ pub mod Answered
 pub mod Life
 pub mod Shapes
 pub mod Texts
+pub mod Written
+pub mod Objects

@@ -10,6 +10,9 @@ mod given;
 mod handle;
 mod life;
 mod loose;
+mod not_read;
+mod object;
+mod objects;
 mod owner;
 mod runs;
 mod shape;
@@ -25,6 +28,8 @@ pub use calls::{
 pub use explain::bpf_host_explain;
 pub use handle::{BpfHost, handles_cross};
 pub use life::{bpf_host_free, bpf_host_new, bpf_host_version};
+pub use object::{BpfHostObject, BpfHostObjectMap};
+pub use objects::bpf_host_read_object;
 pub use owner::Owner;
 pub use runs::{bpf_host_run, bpf_host_step};
 pub use shape::bpf_host_shape;

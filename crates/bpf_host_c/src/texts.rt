@@ -12,6 +12,13 @@ use lowering::{Lowered, NotLowered, Stop, lower};
 use std::alloc::Global;
 use verifier::Verified;
 
+/// Why no text is made: the refusal, and what stopped the lowering, if it was tried.
+#[derive(Clone, Copy)]
+pub(crate) struct NotMade {
+    pub fault: Fault,
+    pub stopped: Option<NotLowered>,
+}
+
 /// Verifies a text for maps of these shapes, by number, and contexts of a size in bytes. A shape of two zeros is that of no map.
 #[unsafe(no_mangle)]
 pub extern "C" fn bpf_host_verify(
@@ -44,7 +51,7 @@ pub extern "C" fn bpf_host_lower(
 {
     match made(alloc, text, shapes, context_size) {
         Ok(made) => put(made.text.as_slice(), lowered, written),
-        Err(fault) => refuse(fault, refused),
+        Err(not_made) => refuse(not_made.fault, refused),
     }
 }
 
@@ -64,19 +71,30 @@ fn verified(
 }
 
 /// What the lowering makes of a text.
-fn made(
+pub(crate) fn made(
     alloc: Global,
     text: &[u8],
     shapes: &[BpfHostShape],
     context_size: u32,
-) -> Result<Lowered, Fault>
+) -> Result<Lowered, NotMade>
     ensures made { IfOk result (λ made. IsLoweredText text.now shapes.now context_size made.text.items) }
-    ensures refused { IfErr result (RefusesLowering text.now shapes.now context_size) }
+    ensures refused { IfErr result (λ not_made. RefusesLowering text.now shapes.now context_size not_made.fault) }
 {
-    let shapes = allowed(shapes, context_size)?;
+    let shapes = match allowed(shapes, context_size) {
+        Ok(shapes) => shapes,
+        Err(fault) => {
+            return Err(NotMade {
+                fault,
+                stopped: None,
+            });
+        }
+    };
     match lower(alloc, text, &shapes, context_size) {
         Ok(lowered) => Ok(lowered),
-        Err(stopped) => Err(fault_of(stopped)),
+        Err(stopped) => Err(NotMade {
+            fault: fault_of(stopped),
+            stopped: Some(stopped),
+        }),
     }
 }
 
@@ -92,7 +110,7 @@ fn fault_of(stopped: NotLowered) -> Fault
 }
 
 /// Writes what a refusal says beside its number: the number that the call returns.
-fn refuse(fault: Fault, refused: &mut BpfHostRefused) -> u32
+pub(crate) fn refuse(fault: Fault, refused: &mut BpfHostRefused) -> u32
     ensures { HasRefused fault result refused.old refused.new }
 {
     refused.write(&fault);

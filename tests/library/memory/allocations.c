@@ -85,6 +85,41 @@ static int explain_without(unsigned number)
     return was_refused;
 }
 
+/* An object file is read without one of the allocations: 41 and nothing but words for that, or the code that is wanted. Whether that allocation was
+ * asked for. */
+static int read_without(unsigned number, const char *path, uint32_t code_wanted)
+{
+    static struct bpf_host_object object, before;
+    static uint8_t bytes[65536];
+    struct bpf_host_refused refused = {0, 0, 0};
+    FILE *file = fopen(path, "rb");
+    size_t size = file == NULL ? 0 : fread(bytes, 1, sizeof bytes, file);
+    if (file != NULL)
+        fclose(file);
+    memset(&object, '~', sizeof object);
+    before = object;
+    left_until_refused = number;
+    uint32_t code = bpf_host_read_object(bytes, size, "", 0, 0, &object, &refused);
+    int was_refused = left_until_refused == 0;
+    left_until_refused = 0;
+    if (code == 41) {
+        wanted(was_refused && strcmp(object.why, "out of memory") == 0, "41 with memory, or in other words");
+        memcpy(object.why, before.why, sizeof object.why);
+        wanted(memcmp(&object, &before, sizeof object) == 0, "41, and something is written");
+    } else {
+        wanted(code == code_wanted, "another refusal of an object file");
+    }
+    return was_refused;
+}
+
+static unsigned objects_read(const char *path, uint32_t code_wanted)
+{
+    unsigned number = 1;
+    while (read_without(number, path, code_wanted) && number < 10000)
+        number++;
+    return number - 1;
+}
+
 static void list_of_calls(void)
 {
     static const uint8_t text[] = {0xb7, 0, 0, 0, 42, 0, 0, 0, 0x95, 0, 0, 0, 0, 0, 0, 0};
@@ -136,6 +171,10 @@ int main(void)
     wanted(lacked == refused - 1, "an allocation was refused, and no call said so");
     for (unsigned number = 1; explain_without(number) && number < 10000; number++)
         refused++;
+    refused += objects_read("crates/bpf_object/data/globals.o", 0);
+    refused += objects_read("crates/bpf_object/data/loop.o", 0);
+    refused += objects_read("crates/bpf_object/data/unset.o", 14);
+    refused += objects_read("crates/bpf_object/data/line.o", 103);
     printf("%u allocations refused, %u failed\n", refused - 1, failures);
     return failures != 0;
 }

@@ -1,0 +1,115 @@
+//! A program of an object file, as `clang -g -O2 -target bpf -c` makes it.
+
+use crate::ffi;
+use crate::refused::Refused;
+use crate::tenant::Shape;
+use std::fmt;
+
+/// A program of an object file, which the verifier accepts for the maps that the file has.
+#[derive(Clone, Debug, PartialEq, Eq)]
+pub struct Object {
+    pub context_size: u32,
+    /// The text, of functions that are copied into one and of loops that are unrolled.
+    pub text: Vec<u8>,
+    /// The maps, by the numbers that the text has for them.
+    pub maps: Vec<ObjectMap>,
+}
+
+/// A map of an object file, one that it defines or that its global variables are in.
+#[derive(Clone, Debug, PartialEq, Eq)]
+pub struct ObjectMap {
+    pub name: String,
+    pub shape: Shape,
+    /// Value 0 at the start; no bytes where it is zeros.
+    pub first: Vec<u8>,
+}
+
+/// Why an object file has no program for this host.
+#[derive(Clone, Debug, PartialEq, Eq)]
+pub struct ObjectRefused {
+    pub refused: Refused,
+    /// What the program `bpf_object` says, with the line of C.
+    pub why: String,
+}
+
+impl Object {
+    /// Reads an object file. The name is that of a function, or of its section; where there is one function, it may be empty.
+    ///
+    /// ```
+    /// let refused = bpf_host::Object::read(b"no ELF", "", 0).unwrap_err();
+    /// assert_eq!(refused.why, "this is no ELF file");
+    /// ```
+    pub fn read(file: &[u8], name: &str, context_size: u32) -> Result<Object, ObjectRefused> {
+        let mut read = Box::new(ffi::Object {
+            context_size: 0,
+            text_len: 0,
+            maps_len: 0,
+            text: [0; 32768],
+            maps: [ffi::ObjectMap {
+                shape: ffi::Shape::default(),
+                first_len: 0,
+                name: [0; 64],
+                first: [0; 4096],
+            }; 8],
+            why: [0; 1024],
+        });
+        let mut refused = ffi::Refused::default();
+        // SAFETY: the file and the name are slices of their lengths; they and what is written outlive the call.
+        let code = unsafe {
+            ffi::bpf_host_read_object(
+                file.as_ptr(),
+                file.len(),
+                name.as_ptr(),
+                name.len(),
+                context_size,
+                &mut *read,
+                &mut refused,
+            )
+        };
+        match Refused::check(code, refused) {
+            Ok(()) => Ok(Object::of(&read)),
+            Err(refused) => Err(ObjectRefused {
+                refused,
+                why: text_of(&read.why),
+            }),
+        }
+    }
+
+    fn of(read: &ffi::Object) -> Object {
+        Object {
+            context_size: read.context_size,
+            text: read.text[..read.text_len as usize].to_vec(),
+            maps: read.maps[..read.maps_len as usize]
+                .iter()
+                .map(ObjectMap::of)
+                .collect(),
+        }
+    }
+}
+
+impl ObjectMap {
+    fn of(map: &ffi::ObjectMap) -> ObjectMap {
+        ObjectMap {
+            name: text_of(&map.name),
+            shape: Shape {
+                value_size: map.shape.value_size,
+                entries: map.shape.entries,
+            },
+            first: map.first[..map.first_len as usize].to_vec(),
+        }
+    }
+}
+
+impl fmt::Display for ObjectRefused {
+    fn fmt(&self, out: &mut fmt::Formatter<'_>) -> fmt::Result {
+        write!(out, "{}", self.why)
+    }
+}
+
+impl std::error::Error for ObjectRefused {}
+
+/// The text up to the first zero.
+fn text_of(bytes: &[u8]) -> String {
+    let end = bytes.iter().position(|byte| *byte == 0);
+    String::from_utf8_lossy(&bytes[..end.unwrap_or(bytes.len())]).into_owned()
+}

@@ -1,0 +1,118 @@
+/* Object files: what a refusal leaves, and a program that is loaded with its maps. The rows of `bpf_object` are compared in objects/rows.c. */
+#include "check.h"
+
+_Static_assert(sizeof(struct bpf_host_object_map) == 4172, "a map of an object is laid out as the library has it");
+_Static_assert(sizeof(struct bpf_host_object) == 67180, "an object is laid out as the library has it");
+
+static struct bpf_host_object object;
+static uint8_t bytes[65536];
+
+/* The bytes of an object file of crates/bpf_object: how many. */
+static size_t read_file(const char *path)
+{
+    FILE *file = fopen(path, "rb");
+    CHECK(file != NULL, true);
+    size_t size = file == NULL ? 0 : fread(bytes, 1, sizeof bytes, file);
+    if (file != NULL)
+        fclose(file);
+    return size;
+}
+
+/* Reads what `bytes` begins with: what the call returns. */
+static uint32_t read_object(size_t size, const char *name, uint32_t context_size)
+{
+    last_refused = (struct bpf_host_refused){77, 78, 79};
+    return bpf_host_read_object(bytes, size, name, strlen(name), context_size, &object, &last_refused);
+}
+
+/* A tenant has no map. */
+static void check_no_maps(struct bpf_host *host, uint32_t tenant)
+{
+    struct bpf_host_shape shape;
+    for (uint32_t map = 0; map < 8; map++)
+        CHECK(bpf_host_shape(host, tenant, map, &shape), 34);
+}
+
+/* A refusal by a number, in words that begin so, writes nothing else. */
+static void check_refused(size_t size, const char *name, uint32_t context_size, uint32_t code, const char *why)
+{
+    static struct bpf_host_object before;
+    memset(&before, 0xee, sizeof before);
+    memset(&object, 0xee, sizeof object);
+    CHECK(read_object(size, name, context_size), code);
+    CHECK(strncmp(object.why, why, strlen(why)), 0);
+    CHECK(object.why[sizeof object.why - 1], 0);
+    memcpy(object.why, before.why, sizeof object.why);
+    CHECK(memcmp(&object, &before, sizeof object), 0);
+    CHECK(last_refused.need, 78);
+    CHECK(last_refused.have, 79);
+}
+
+static void test_refused_files(void)
+{
+    size_t size = read_file("crates/bpf_object/data/two.o");
+    check_refused(size, "tc", 7, BPF_HOST_BAD_CONTEXT, "refused 39 BadContext\n");
+    check_refused(size, "tc", 264, BPF_HOST_BAD_CONTEXT, "refused 39 BadContext\n");
+    check_refused(0, "", 7, BPF_HOST_BAD_CONTEXT, "refused 39 BadContext\n");
+    check_refused(0, "", 0, BPF_HOST_BAD_OBJECT, "this is no ELF file");
+    check_refused(size, "", 0, BPF_HOST_BAD_OBJECT, "section 2, byte 0: there are several functions, ");
+    check_refused(size, "other", 0, BPF_HOST_BAD_OBJECT, "no section and no function is named `other`");
+    check_refused(size, "\xff", 0, BPF_HOST_BAD_OBJECT, "the name is no UTF-8 text");
+    check_refused(size / 2, "tc", 0, BPF_HOST_BAD_OBJECT, "");
+    CHECK(last_refused.slot, 77);
+    check_refused(read_file("crates/bpf_object/data/unset.o"), "", 0, BPF_HOST_UNSET_REGISTER, "refused 14 UnsetRegister at 0\n");
+    CHECK(last_refused.slot, 0);
+}
+
+/* A program with three maps runs, and no other one is loaded for its tenant with maps of its own. */
+static void test_loaded_objects(void)
+{
+    struct bpf_host host = {0};
+    struct bpf_host_refused refused = {0, 0, 0};
+    uint32_t program = 99;
+    CHECK(read_object(read_file("crates/bpf_object/data/globals.o"), "", 0), 0);
+    CHECK(object.maps_len, 3);
+    CHECK(bpf_host_load_object(&host, 0, &object, true, &program, &refused), BPF_HOST_CLOSED);
+    open_host(&host, 8, 2);
+    CHECK(bpf_host_load_object(&host, 2, &object, true, &program, &refused), BPF_HOST_BAD_TENANT);
+    CHECK(program, 99);
+    for (uint32_t tenant = 0; tenant < 2; tenant++) {
+        CHECK(bpf_host_load_object(&host, tenant, &object, tenant == 0, &program, &refused), 0);
+        CHECK(program, 0);
+        check_run(&host, tenant, "", 134678021, 6);
+    }
+    program = 99;
+    CHECK(bpf_host_load_object(&host, 0, &object, true, &program, &refused), BPF_HOST_HAS_MAPS);
+    CHECK(program, 99);
+    bpf_host_free(&host);
+}
+
+/* A step that is refused leaves no map: for want of frames, or of a text that isn't taken. */
+static void test_refused_objects(void)
+{
+    struct bpf_host host = {0};
+    struct bpf_host_refused refused = {0, 0, 0};
+    uint32_t program = 99;
+    open_host(&host, 3, 1);
+    CHECK(read_object(read_file("crates/bpf_object/data/globals.o"), "", 0), 0);
+    CHECK(bpf_host_load_object(&host, 0, &object, true, &program, &refused), BPF_HOST_NO_FRAMES);
+    check_no_maps(&host, 0);
+    bpf_host_free(&host);
+    open_host(&host, 8, 1);
+    object.context_size = 7;
+    CHECK(bpf_host_load_object(&host, 0, &object, true, &program, &refused), BPF_HOST_BAD_CONTEXT);
+    check_no_maps(&host, 0);
+    object.context_size = 0;
+    object.maps[2].first_len = 9;
+    CHECK(bpf_host_load_object(&host, 0, &object, true, &program, &refused), BPF_HOST_BAD_SHAPE);
+    check_no_maps(&host, 0);
+    CHECK(program, 99);
+    bpf_host_free(&host);
+}
+
+void test_objects(void)
+{
+    test_refused_files();
+    test_loaded_objects();
+    test_refused_objects();
+}
