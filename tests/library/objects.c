@@ -87,6 +87,22 @@ static void test_loaded_objects(void)
     bpf_host_free(&host);
 }
 
+/* The pages of two tenants' maps are merged where that is asked, and else never. */
+static void test_merged_objects(void)
+{
+    struct bpf_host_refused refused = {0, 0, 0};
+    uint32_t program = 99;
+    CHECK(read_object(read_file("crates/bpf_object/data/globals.o"), "", 0), 0);
+    for (uint32_t is_asked = 0; is_asked < 2; is_asked++) {
+        struct bpf_host host = {0};
+        open_host(&host, 8, 2);
+        for (uint32_t tenant = 0; tenant < 2; tenant++)
+            CHECK(bpf_host_load_object(&host, tenant, &object, is_asked, &program, &refused), 0);
+        CHECK(after_visits(&host, 100).pages_sharing > 0, is_asked);
+        bpf_host_free(&host);
+    }
+}
+
 /* A step that is refused leaves no map: for want of frames, or of a text that isn't taken. */
 static void test_refused_objects(void)
 {
@@ -114,5 +130,6 @@ void test_objects(void)
 {
     test_refused_files();
     test_loaded_objects();
+    test_merged_objects();
     test_refused_objects();
 }
