@@ -27,7 +27,7 @@ use verifier::Verified;
 impl Shared {
     /// Makes a whole run of a program by the seat's tenant, as `Run::begin` gave it for this program: it
     /// begins and ends in a turn each, and each load from a map, store to one and call of a helper takes a
-    /// turn; no other step takes one. The gate is called before each step, between the turns. The run
+    /// turn; no other step takes one. A gate that isn't open is called before each step, between the turns. The run
     /// returns what the standard's machine returns on the maps of the seat, whatever others do between the
     /// turns, within as many steps as the program has instructions.
     ///
