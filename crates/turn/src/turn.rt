@@ -27,10 +27,16 @@ const HOME: u64 = 0;
 /// The word while the memory is out.
 const OUT: u64 = 1;
 
-/// How many pauses a loser makes before each further try, before it sleeps; eight tries take some 300 microseconds. While a loser
-/// pauses it doesn't look at the word, so that the word's cache line, and those of the memory, stay with the thread that takes turns
-/// one after the other: moving them to another thread takes as long as dozens of turns.
-const PAUSES: [u32; 8] = [256, 512, 1024, 1024, 1024, 1024, 1024, 1024];
+/// How many pauses a loser makes before each further try, before it sleeps. By the processor a pause takes 4 to 45 nanoseconds, so eight tries
+/// take 0.2 to 2.4 milliseconds. While a loser pauses it doesn't look at the word, so that the word's cache line, and those of the memory, stay
+/// with the thread that takes turns one after the other: moving them to another thread takes as long as dozens of turns.
+const PAUSES: [u32; 8] = [1024, 4096, 8192, 8192, 8192, 8192, 8192, 8192];
+
+/// How often a loser looks at the word before that.
+const LOOKS: u32 = 4;
+
+/// How many pauses it makes before each of these looks.
+const SHORT_PAUSES: u32 = 8;
 
 type Token = atomic_table::Seat<Option<Boxed>, View>;
 
@@ -190,12 +196,17 @@ impl Turn {
         unreachable!()
     }
 
-    /// Tries a few times, with longer and longer pauses between tries.
+    /// Tries at once where nobody seems to take one turn after the other, and then a few times with longer and longer pauses.
     fn take_soon<K: Kind>(&self, seat: &mut SeatOf<K>) -> Option<Held>
         requires turn { seat.old.turn ≡ self.now }
         requires free { seat.old.view.holds ≡ false }
         ensures { MatchOption result (seat.new ≡ seat.old) (IsTaken seat.old seat.new) }
     {
+        if self.stays_home() {
+            if let Some(held) = self.try_take(seat) {
+                return Some(held);
+            }
+        }
         for pauses in PAUSES {
             pause(pauses);
             if let Some(held) = self.try_if_home(seat) {
@@ -203,6 +214,17 @@ impl Turn {
             }
         }
         None
+    }
+
+    /// Whether the memory is home at a few looks, one shortly after the other: then turns are rare now, and a long pause would be in vain.
+    fn stays_home(&self) -> bool {
+        for _look in 0..LOOKS {
+            pause(SHORT_PAUSES);
+            if self.table.shared.peek(0) != HOME {
+                return false;
+            }
+        }
+        true
     }
 
     /// Tries to take the memory where a look at the word finds it home: a look costs the others less than a try.
