@@ -1,5 +1,5 @@
-/* How long whole runs of compiled programs take, in nanoseconds, by the library, by the C switch of switch.h, and by DPDK's interpreter
- * where it is built in (dpdk.h): corpus [ROUNDS [REPEATS [TEXTS]]]
+/* How long whole runs of compiled programs take, in nanoseconds, by the library with a call each and with one for 64, by the C switch of switch.h,
+ * and by DPDK's interpreter where it is built in (dpdk.h): corpus [ROUNDS [REPEATS [TEXTS]]]
  *
  * TEXTS is bench/corpus.texts if it is left out. Each program runs on 64 drawn contexts first, by all engines, whose answers, numbers of
  * steps and maps are compared. Then the engines take turns: in each of ROUNDS rounds (9) each goes over the contexts REPEATS times (20),
@@ -44,6 +44,7 @@ static void print_row(const struct loaded *loaded)
         print_number(ns[engine] / loaded->steps, 2);
     print_number(loaded->ratio[LIBRARY], 2);
     print_number(loaded->ratio[DPDK], 2);
+    print_number(loaded->ratio[MANY], 2);
     printf("\n");
 }
 
@@ -72,12 +73,16 @@ static void print_means(void)
         const char *name;
         double least, below;
     } ROWS[] = {{"all", 0, INFINITY}, {"below 20", 0, 20}, {"20 to 60", 20, 60}, {"60 to 300", 60, 300}, {"300 or more", 300, INFINITY}};
-    printf("\n| steps a run | programs | library / switch | by the least | programs of DPDK | DPDK / switch | by the least |\n|---|---|---|---|---|---|---|\n");
+    printf("\n| steps a run | programs | library / switch | by the least | 64 a call / switch | by the least | programs of DPDK | DPDK / switch | by the least |\n");
+    printf("|---|---|---|---|---|---|---|---|---|\n");
     for (size_t at = 0; at < sizeof ROWS / sizeof *ROWS; at++) {
         struct means library = means_of(LIBRARY, ROWS[at].least, ROWS[at].below), dpdk = means_of(DPDK, ROWS[at].least, ROWS[at].below);
+        struct means many = means_of(MANY, ROWS[at].least, ROWS[at].below);
         printf("| %s | %u |", ROWS[at].name, library.programs);
         print_number(library.ratio, 2);
         print_number(library.of_least, 2);
+        print_number(many.ratio, 2);
+        print_number(many.of_least, 2);
         printf(" %u |", dpdk.programs);
         print_number(dpdk.ratio, 2);
         print_number(dpdk.of_least, 2);
@@ -104,8 +109,9 @@ static void count(uint32_t number)
 
 static void print_table(int rounds, int repeats)
 {
-    printf("| file | program | slots | steps a run | library, ns a run | C switch | DPDK | library, ns a step | C switch | DPDK | library / switch | DPDK / switch |\n");
-    printf("|---|---|---|---|---|---|---|---|---|---|---|---|\n");
+    printf("| file | program | slots | steps a run | library, ns a run | C switch | DPDK | 64 a call | library, ns a step | C switch | DPDK | 64 a call "
+           "| library / switch | DPDK / switch | 64 a call / switch |\n");
+    printf("|---|---|---|---|---|---|---|---|---|---|---|---|---|---|---|\n");
     for (struct loaded *loaded = loadeds; loaded < loadeds + loaded_count; loaded++) {
         measure_runs(loaded, rounds, repeats);
         print_row(loaded);
@@ -124,7 +130,7 @@ int main(int words, char **word)
     for (uint32_t number = 0; number < loaded_count && rounds == 0; number++)
         count(number);
     for (uint32_t number = 0; number < loaded_count; number++)
-        bpf_host_free(&loadeds[number].host);
+        release(&loadeds[number]);
     if (failed)
         printf("a call was refused, a program isn't refused as it should be, or engines differ\n");
     return failed != 0;

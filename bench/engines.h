@@ -1,5 +1,5 @@
-/* Engines that run the programs of corpus.h by turns: the library, the C switch of switch.h, and DPDK's interpreter where it is built in
- * (dpdk.h). A file that includes this defines _POSIX_C_SOURCE first, as 200809L. */
+/* Engines that run the programs of corpus.h by turns: the library, the C switch of switch.h, DPDK's interpreter where it is built in
+ * (dpdk.h), and the library again with one call for all contexts. A file that includes this defines _POSIX_C_SOURCE first, as 200809L. */
 #ifndef ENGINES_H
 #define ENGINES_H
 
@@ -11,14 +11,16 @@
 
 enum { MOST_ROUNDS = 101, PAGE = 4096 };
 
-enum engine { LIBRARY, SWITCH, DPDK, ENGINES };
+enum engine { LIBRARY, SWITCH, DPDK, MANY, ENGINES };
 
-static const char *const ENGINE_NAMES[ENGINES] = {"library", "switch", "dpdk"};
+static const char *const ENGINE_NAMES[ENGINES] = {"library", "switch", "dpdk", "many"};
 
 /* A program that all engines have loaded. DPDK's is NULL where it refuses the program. */
 struct loaded {
     const struct program *program;
-    struct bpf_host host;
+    /* `many` makes many runs in a call, on contexts that stand one after the other. */
+    struct bpf_host host, many;
+    uint8_t *contexts;
     struct linked by_switch, by_dpdk;
     struct rte_bpf *dpdk;
     double steps;
@@ -39,23 +41,22 @@ static uint32_t frames_of(const struct program *program)
 }
 
 /* Opens a host with the program's maps and their first values, and loads it: 0, or what refuses it. */
-static uint32_t load(struct loaded *loaded)
+static uint32_t load(const struct program *program, struct bpf_host *host)
 {
-    const struct program *program = loaded->program;
     struct bpf_host_options options = BPF_HOST_OPTIONS;
-    uint32_t number, code = bpf_host_new(frames_of(program), 1, &options, &loaded->host);
+    uint32_t number, code = bpf_host_new(frames_of(program), 1, &options, host);
     for (uint32_t map = 0; map < program->map_count; map++) {
         const struct map *shape = &program->shapes[map];
-        code |= bpf_host_create_map(&loaded->host, 0, shape->value_size, shape->entries, true, &number, &refused);
+        code |= bpf_host_create_map(host, 0, shape->value_size, shape->entries, true, &number, &refused);
     }
     for (uint32_t at = 0; at < program->update_count; at++) {
         const struct first_value *update = &program->updates[at];
         uint32_t size = program->shapes[update->map].value_size;
-        code |= bpf_host_update(&loaded->host, 0, update->map, update->key, update->bytes, size, &refused);
+        code |= bpf_host_update(host, 0, update->map, update->key, update->bytes, size, &refused);
     }
     failed |= code;
     size_t size = sizeof *program->text * program->slots;
-    return bpf_host_load(&loaded->host, 0, (const uint8_t *)program->text, size, program->context_size, &number, &refused);
+    return bpf_host_load(host, 0, (const uint8_t *)program->text, size, program->context_size, &number, &refused);
 }
 
 /* Each of these runs a program on a context: what it returns. */
@@ -77,9 +78,30 @@ static inline uint64_t run_by_dpdk(struct loaded *loaded, const uint8_t *context
     return rte_bpf_exec(loaded->dpdk, (void *)(uintptr_t)context);
 }
 
+/* Runs a program on all contexts in one call, and writes what each run returns. */
+static inline void run_many(struct loaded *loaded, uint64_t rets[CONTEXTS])
+{
+    size_t size = CONTEXTS * loaded->program->context_size;
+    failed |= bpf_host_run_many(&loaded->many, 0, 0, loaded->contexts, size, rets, CONTEXTS, &refused);
+}
+
+/* Goes over the contexts so many times, with a call each time: a number of all that the runs returned. */
+static uint64_t many_runs(struct loaded *loaded, int repeats)
+{
+    uint64_t all = 0, rets[CONTEXTS];
+    for (int call = 0; call < repeats; call++) {
+        run_many(loaded, rets);
+        for (int run = 0; run < CONTEXTS; run++)
+            all = all * 31 + rets[run];
+    }
+    return all;
+}
+
 /* Goes over the contexts so many times: a number of all that the runs returned. */
 static uint64_t runs(enum engine engine, struct loaded *loaded, int repeats)
 {
+    if (engine == MANY)
+        return many_runs(loaded, repeats);
     const uint8_t(*contexts)[LONGEST_CONTEXT] = loaded->program->contexts;
     uint64_t all = 0;
     uint32_t steps;
@@ -103,20 +125,30 @@ static void differs(const struct loaded *loaded, const char *what, enum engine e
     failed = 1;
 }
 
-/* Compares what the engines' maps hold. */
-static void compare_maps(struct loaded *loaded)
+/* Compares what the maps of an engine that is a host hold with those of the C switch. */
+static void compare_host(struct loaded *loaded, struct bpf_host *host, enum engine engine)
 {
     for (uint32_t map = 0; map < loaded->program->map_count; map++) {
         const struct map *values = &loaded->by_switch.maps[map];
         bool differ = false;
         for (uint32_t key = 0; key < values->entries; key++) {
             uint8_t value[LONGEST_VALUE];
-            failed |= bpf_host_lookup(&loaded->host, 0, map, key, value, values->value_size);
+            failed |= bpf_host_lookup(host, 0, map, key, value, values->value_size);
             differ |= memcmp(value, values->values + (uint64_t)key * values->stride, values->value_size) != 0;
         }
         if (differ)
-            differs(loaded, "a map", LIBRARY);
-        if (loaded->dpdk && memcmp(loaded->by_dpdk.maps[map].values, values->values, (uint64_t)values->stride * values->entries) != 0)
+            differs(loaded, "a map", engine);
+    }
+}
+
+/* Compares what the engines' maps hold. */
+static void compare_maps(struct loaded *loaded)
+{
+    compare_host(loaded, &loaded->host, LIBRARY);
+    compare_host(loaded, &loaded->many, MANY);
+    for (uint32_t map = 0; map < loaded->program->map_count && loaded->dpdk; map++) {
+        const struct map *values = &loaded->by_switch.maps[map];
+        if (memcmp(loaded->by_dpdk.maps[map].values, values->values, (uint64_t)values->stride * values->entries) != 0)
             differs(loaded, "a map", DPDK);
     }
 }
@@ -124,13 +156,16 @@ static void compare_maps(struct loaded *loaded)
 /* Runs the program on each context by all engines, and compares answers, numbers of steps and maps. */
 static void compare(struct loaded *loaded)
 {
-    uint64_t all = 0;
+    uint64_t all = 0, rets[CONTEXTS];
+    run_many(loaded, rets);
     for (int run = 0; run < CONTEXTS; run++) {
         const uint8_t *context = loaded->program->contexts[run];
         uint32_t steps, wanted_steps;
         uint64_t ret = run_by_switch(loaded, context, &wanted_steps);
         if (run_by_library(loaded, context, &steps) != ret)
             differs(loaded, "an answer", LIBRARY);
+        if (rets[run] != ret)
+            differs(loaded, "an answer", MANY);
         if (steps != wanted_steps)
             differs(loaded, "the number of steps", LIBRARY);
         if (loaded->dpdk && run_by_dpdk(loaded, context) != ret)
@@ -141,13 +176,24 @@ static void compare(struct loaded *loaded)
     loaded->steps = (double)all / CONTEXTS;
 }
 
+/* Frees what a program was loaded into. */
+static inline void release(struct loaded *loaded)
+{
+    bpf_host_free(&loaded->host);
+    bpf_host_free(&loaded->many);
+    free(loaded->contexts);
+}
+
 /* Loads a program by all engines and compares them: 0, or what the verifier answers. */
 static inline uint32_t take(const struct program *program, struct loaded *loaded)
 {
-    *loaded = (struct loaded){.program = program};
-    uint32_t code = load(loaded);
+    size_t size = program->context_size;
+    *loaded = (struct loaded){.program = program, .contexts = wanted(malloc(CONTEXTS * size + 1), "memory ran out")};
+    for (size_t number = 0; number < CONTEXTS; number++)
+        memcpy(loaded->contexts + number * size, program->contexts[number], size);
+    uint32_t code = load(program, &loaded->host) | load(program, &loaded->many);
     if (code != 0) {
-        bpf_host_free(&loaded->host);
+        release(loaded);
         return code;
     }
     link_program(program, &loaded->by_switch);

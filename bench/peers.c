@@ -57,8 +57,9 @@ static void print_run(const struct program *program, int rounds, int repeats)
         print_number(loaded.ns[engine], 1);
     print_number(loaded.ratio[LIBRARY], 2);
     print_number(loaded.ratio[DPDK], 2);
+    print_number(loaded.ratio[MANY], 2);
     printf("\n");
-    bpf_host_free(&loaded.host);
+    release(&loaded);
 }
 
 /* A program that stands here, with its text and contexts of 64 bytes. */
@@ -75,7 +76,8 @@ static void print_runs(int rounds, int repeats)
 {
     static struct program two = {.file = "two", .name = "instructions", .slots = 2};
     static struct program counter = {.file = "shared_pages.toml", .name = "counter", .slots = 14, .map_count = 1, .shapes = {{1, 8, 8, NULL}}};
-    printf("| ns a run | steps | library | C switch | DPDK | library / switch | DPDK / switch |\n|---|---|---|---|---|---|---|\n");
+    printf("| ns a run | steps | library | C switch | DPDK | library, 64 a call | library / switch | DPDK / switch | 64 a call / switch |\n"
+           "|---|---|---|---|---|---|---|---|---|\n");
     print_run(with_text(&two, RETURN_42), rounds, repeats);
     print_run(with_text(&counter, COUNTER), rounds, repeats);
     for (size_t at = 0; at < sizeof TAKEN / sizeof *TAKEN; at++)
@@ -136,7 +138,7 @@ static void load_by_dpdk(void)
 /* A call, how it is made by each engine that has it, and how many are made at a time. */
 static const struct call {
     const char *name;
-    void (*by[ENGINES])(void);
+    void (*by[MANY])(void);
     int calls;
 } CALLS[] = {
     {"a lookup of 8 bytes", {lookup_by_library, lookup_by_switch, NULL}, 1000},
@@ -157,17 +159,17 @@ static bool makes(const struct call *call, enum engine engine)
 
 static void print_call(const struct call *call, int rounds, int repeats)
 {
-    double ns[ENGINES][MOST_ROUNDS];
+    double ns[MANY][MOST_ROUNDS];
     int calls = call->calls * repeats;
     for (int round = 0; round < rounds; round++)
-        for (int engine = 0; engine < ENGINES; engine++) {
+        for (int engine = 0; engine < MANY; engine++) {
             double start = used();
             for (int left = calls; left > 0 && makes(call, (enum engine)engine); left--)
                 call->by[engine]();
             ns[engine][round] = (used() - start) / calls;
         }
     printf("| %s |", call->name);
-    for (int engine = 0; engine < ENGINES; engine++)
+    for (int engine = 0; engine < MANY; engine++)
         print_number(makes(call, (enum engine)engine) ? median(ns[engine], rounds) : NAN, 1);
     printf("\n");
 }

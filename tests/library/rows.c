@@ -52,18 +52,38 @@ static void test_counter(void)
 
 static void test_many_runs(void)
 {
-    struct bpf_host host;
+    struct bpf_host host = {0};
     const uint8_t contexts[24] = {5, 0, 0, 0, 0, 0, 0, 0, 6, 0, 0, 0, 0, 0, 0, 0, 7};
     uint64_t rets[3] = {1, 2, 3};
+    CHECK(bpf_host_run_many(&host, 0, 0, contexts, 24, rets, 3, &last_refused), 100);
     open_host(&host, 8, 1);
     CHECK(load_hex(&host, 0, FIRST_WORD, 8), 0);
     CHECK(bpf_host_run_many(&host, 0, 0, contexts, 23, rets, 3, &last_refused), 102);
+    CHECK(bpf_host_run_many(&host, 0, 0, contexts, 8, rets, 0, &last_refused), 102);
     CHECK(bpf_host_run_many(&host, 0, 0, contexts, 16, rets, 1, &last_refused), 39);
     CHECK(bpf_host_run_many(&host, 0, 1, contexts, 24, rets, 3, &last_refused), 38);
+    CHECK(bpf_host_run_many(&host, 1, 0, contexts, 24, rets, 3, &last_refused), 42);
     CHECK(rets[0] == 1 && rets[1] == 2 && rets[2] == 3, true);
     CHECK(bpf_host_run_many(&host, 0, 0, contexts, 24, rets, 3, &last_refused), 0);
     CHECK(rets[0] == 5 && rets[1] == 6 && rets[2] == 7, true);
     CHECK(bpf_host_run_many(&host, 0, 0, contexts, 0, rets, 0, &last_refused), 0);
+    bpf_host_free(&host);
+}
+
+/* One frame is free, and the counter's page shares its frame with another: the first run takes the free one, and the second may not begin. */
+static void test_runs_that_stop(void)
+{
+    struct bpf_host host;
+    uint64_t rets[3] = {7, 8, 9};
+    open_host(&host, 3, 1);
+    CHECK(make_map(&host, 0, 8, 1), 0);
+    CHECK(make_map(&host, 0, 8, 1), 0);
+    CHECK(after_visits(&host, 8).frames_free, 1);
+    CHECK(load_hex(&host, 0, COUNTER, 0), 0);
+    CHECK(bpf_host_run_many(&host, 0, 0, (const uint8_t *)"", 0, rets, 3, &last_refused), 31);
+    CHECK(last_refused.need == 1 && last_refused.have == 0, true);
+    CHECK(rets[0] == 1 && rets[1] == 8 && rets[2] == 9, true);
+    check_value(&host, 0, 0, 0, "0100000000000000");
     bpf_host_free(&host);
 }
 
@@ -89,6 +109,7 @@ void test_rows_of_programs(void)
     check_refused("b700000000000000", 0, 0, 13, 0);
     test_counter();
     test_many_runs();
+    test_runs_that_stop();
     check_refused("620afcff00000000 bfa2000000000000 07020000fcffffff 1811000000000000 0000000000000000 8500000001000000 "
         "7901000000000000 0701000001000000 7b10000000000000 bf10000000000000 9500000000000000", 0, 8, 21, 6);
     test_masked_offset();

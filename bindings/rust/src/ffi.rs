@@ -109,6 +109,16 @@ extern "C" {
         run: *mut Run,
         refused: *mut Refused,
     ) -> u32;
+    pub fn bpf_host_run_many(
+        host: *mut Handle,
+        tenant: u32,
+        program: u32,
+        contexts: *const u8,
+        contexts_len: usize,
+        rets: *mut u64,
+        rets_len: usize,
+        refused: *mut Refused,
+    ) -> u32;
     pub fn bpf_host_begin(
         host: *mut Handle,
         tenant: u32,

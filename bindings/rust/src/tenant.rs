@@ -257,16 +257,26 @@ impl<'h> Program<'h> {
         })
     }
 
-    /// Runs the program once for each context of `size` bytes, of which one stands after the other, and writes what each run returns. It
-    /// stops at the first refusal, and leaves the return values from there on as they were.
-    pub fn run_many(&self, contexts: &[u8], size: usize, rets: &mut [u64]) -> Result<(), Refused> {
-        for (number, ret) in rets.iter_mut().enumerate() {
-            let context = contexts
-                .get(number * size..(number + 1) * size)
-                .unwrap_or(&[]);
-            *ret = self.run(context)?.ret;
-        }
-        Ok(())
+    /// Runs the program once for each number to write, on contexts of one size of which one stands after the other, and writes what each
+    /// run returns. It stops at the first refusal, and leaves the return values from there on as they were. 102 where the contexts
+    /// can't have one size.
+    pub fn run_many(&self, contexts: &[u8], rets: &mut [u64]) -> Result<(), Refused> {
+        let mut refused = ffi::Refused::default();
+        // SAFETY: as in `run`; the numbers have their length.
+        let code = unsafe {
+            let (host, tenant) = (self.tenant.host.handle(), self.tenant.number);
+            ffi::bpf_host_run_many(
+                host,
+                tenant,
+                self.number,
+                contexts.as_ptr(),
+                contexts.len(),
+                rets.as_mut_ptr(),
+                rets.len(),
+                &mut refused,
+            )
+        };
+        Refused::check(code, refused)
     }
 
     /// Begins a run, which goes on by `step`, and reserves the frames that it may need.

@@ -100,8 +100,10 @@ fn many_runs_are_made_in_their_order() {
     let _map = host.tenant(0).create_map(8, 1, true).unwrap();
     let counter = host.tenant(0).load(&text(COUNTER), 0).unwrap();
     let mut rets = [0; 5];
-    counter.run_many(&[], 0, &mut rets).unwrap();
+    counter.run_many(&[], &mut rets).unwrap();
     assert_eq!(rets, [1, 2, 3, 4, 5]);
+    let refused = counter.run_many(&[0; 7], &mut rets).unwrap_err();
+    assert_eq!((refused.code, rets), (102, [1, 2, 3, 4, 5]));
 }
 
 #[test]

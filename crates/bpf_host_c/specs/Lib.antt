@@ -6,3 +6,4 @@ pub mod Shapes
 pub mod Texts
 pub mod Written
 pub mod Objects
+pub mod Many

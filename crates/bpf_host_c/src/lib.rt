@@ -10,6 +10,7 @@ mod given;
 mod handle;
 mod life;
 mod loose;
+mod many;
 mod not_read;
 mod object;
 mod objects;
@@ -28,6 +29,7 @@ pub use calls::{
 pub use explain::bpf_host_explain;
 pub use handle::{BpfHost, handles_cross};
 pub use life::{bpf_host_free, bpf_host_new, bpf_host_version};
+pub use many::bpf_host_run_many;
 pub use object::{BpfHostObject, BpfHostObjectMap};
 pub use objects::bpf_host_read_object;
 pub use owner::Owner;
