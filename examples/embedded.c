@@ -1,15 +1,16 @@
-/* Runs filters from object files in a program of C, each in place of the one before (docs/EMBEDDING.md). At the top:
+/* Runs a filter from an object file in a program of C, and then further ones, each in place of the one before (docs/EMBEDDING.md). At the top:
  *
  *     clang -g -O2 -target bpf -c examples/weights.c -o weights.o
  *     cc examples/embedded.c -Iinclude $(tools/static_library) -o embedded && ./embedded weights.o
  *
- * It prints 60: sixty bytes of 0, which weigh 1 each. Of a file that is refused it prints why, with the line of C, and the filter before it goes on. */
+ * It prints 60: sixty bytes of 0, which weigh 1 each. Of a file that is refused it prints why, with the line of C. */
 #include "bpf_host.h"
 #include <stdio.h>
 
 /* An upload, of which at most so many bytes are read, and its program. They are static since they are large. */
 static uint8_t file[1 << 20];
 static struct bpf_host_object object;
+static struct bpf_host_refused refused;
 
 /* A `struct packet` of length 64. */
 static const uint8_t packet[64] = {64};
@@ -24,7 +25,7 @@ static size_t receive(const char *path)
     return size;
 }
 
-/* Frees a tenant's program, if it has one, and its maps. */
+/* Frees a tenant's program and its maps. */
 static void unload(struct bpf_host *host, uint32_t tenant, uint32_t program)
 {
     bpf_host_unload(host, tenant, program);
@@ -32,29 +33,43 @@ static void unload(struct bpf_host *host, uint32_t tenant, uint32_t program)
         bpf_host_drop_map(host, tenant, map);
 }
 
+/* Loads an upload for the tenant without maps, and unloads the other one's program, which stays where the upload is refused. */
+static uint32_t replace(struct bpf_host *host, size_t size, uint32_t *tenant, uint32_t *program)
+{
+    uint32_t spare = 1 - *tenant, next = 0;
+    uint32_t code = bpf_host_read_object(file, size, "weigh", 5, 64, &object, &refused);
+    if (code == 0)
+        code = bpf_host_load_object(host, spare, &object, false, &next, &refused);
+    if (code == 0) {
+        unload(host, *tenant, *program);
+        *tenant = spare, *program = next;
+    }
+    return code;
+}
+
 int main(int argc, char **argv)
 {
     struct bpf_host host = {0};
     struct bpf_host_options options = BPF_HOST_OPTIONS;
-    struct bpf_host_refused refused = {0, 0, 0};
     struct bpf_host_run run = {0, 0};
-    uint32_t tenant = 0, program = 0, next = 0, code;
-    code = bpf_host_new(64, 2, &options, &host); /* 64 frames of 4 KiB; 2 tenants, one spare */
-    for (int upload = 1; upload < argc; upload++) {
-        size_t size = receive(argv[upload]);
-        uint32_t spare = 1 - tenant; /* without maps yet */
+    uint32_t tenant = 0, program = 0, code;
+    size_t size = argc > 1 ? receive(argv[1]) : 0;
+    code = bpf_host_new(64, 2, &options, &host); /* 64 frames of 4 KiB; 2 tenants */
+    if (code == 0)
         code = bpf_host_read_object(file, size, "weigh", 5, 64, &object, &refused); /* contexts of 64 bytes */
-        if (code == 0)
-            code = bpf_host_load_object(&host, spare, &object, false, &next, &refused); /* false: no page is merged */
-        if (code != 0) {
-            printf("%s\n%s\n", bpf_host_code_name(code), object.why);
-        } else {
-            unload(&host, tenant, program);
-            tenant = spare, program = next;
-        }
+    if (code == 0)
+        code = bpf_host_load_object(&host, tenant, &object, false, &program, &refused); /* false: don't share equal pages */
+    if (code == 0)
         code = bpf_host_run(&host, tenant, program, packet, 64, &run, &refused);
-        if (code == 0)
-            printf("%llu\n", (unsigned long long)run.ret);
+    if (code == 0)
+        printf("%llu\n", (unsigned long long)run.ret);
+    else
+        printf("%s\n%s\n", bpf_host_code_name(code), object.why);
+    for (int upload = 2; upload < argc && code == 0; upload++) {
+        if (replace(&host, receive(argv[upload]), &tenant, &program) != 0)
+            printf("%s\n", object.why);
+        code = bpf_host_run(&host, tenant, program, packet, 64, &run, &refused);
+        printf("%llu\n", (unsigned long long)run.ret);
     }
     bpf_host_free(&host);
     return code != 0;
