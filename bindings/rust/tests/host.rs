@@ -104,6 +104,13 @@ fn many_runs_are_made_in_their_order() {
     assert_eq!(rets, [1, 2, 3, 4, 5]);
     let refused = counter.run_many(&[0; 7], &mut rets).unwrap_err();
     assert_eq!((refused.code, rets), (102, [1, 2, 3, 4, 5]));
+    let first_byte = host.tenant(0).load(&text("71100000000000009500000000000000"), 8).unwrap();
+    let mut contexts = [0; 24];
+    (contexts[0], contexts[8], contexts[16]) = (5, 6, 7);
+    first_byte.run_many(&contexts, &mut rets[..3]).unwrap();
+    assert_eq!(rets, [5, 6, 7, 4, 5]);
+    let refused = first_byte.run_many(&contexts[..16], &mut rets[..4]).unwrap_err();
+    assert_eq!((refused.name(), rets), ("BadContext", [5, 6, 7, 4, 5]));
 }
 
 #[test]
