@@ -6,5 +6,5 @@
 mod need;
 mod reserve;
 
-pub use need::{needed, whole_need};
+pub use need::{needed, needed_within, whole_need};
 pub use reserve::{admit, breaks, lower, release};

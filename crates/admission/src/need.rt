@@ -25,6 +25,20 @@ pub fn needed(program: &Verified, memory: &Memory, tenant: u32, slot: u32) -> u3
     capped(program, memory, tenant, slot, total)
 }
 
+/// How many frames a run may need from a slot on, for a caller that knows a number which that isn't above, as what is recorded for the
+/// run: once so many pages are counted, no further map is looked at.
+#[inline]
+pub fn needed_within(program: &Verified, memory: &Memory, tenant: u32, slot: u32, most: u32) -> u32
+    requires { needed_from program.now (part memory.now tenant) slot ≤ most }
+    ensures { result ≡ needed_from program.now (part memory.now tenant) slot }
+{
+    let total = program.reserve(slot).min(most);
+    if total == 0 {
+        return 0;
+    }
+    capped(program, memory, tenant, slot, total)
+}
+
 /// The smaller of what a run's stores may take in all and of how many pages the rest of it may take out: those that
 /// aren't pinned of the maps that it may write. Once these are as many, no further map is looked at.
 #[inline(never)]

@@ -5,4 +5,3 @@ pub mod Buffers
 pub mod Textual
 pub mod WrittenMaps
 pub mod Reasons
-pub mod Sequences

@@ -1,11 +1,11 @@
 //! Many runs of a program in one call.
 ghost use Rattle.std.specs.Prelude.{◌≡◌, ◌≢◌, ◌⊎◌, ◌*◌, ℕ, length, IfSome, IfNone};
-ghost use Rattle.bpf_host_c.specs.Many.{HaveRun, AnswersMany, stop_code, stop_written};
+ghost use Rattle.bpf_host_c.specs.Many.{AnswersMany, stop_code, stop_written};
 
 use crate::answer::Answer;
 use crate::handle::BpfHost;
 use crate::structs::BpfHostRefused;
-use host_core::{Host, Reply};
+use host_core::Reply;
 use std::alloc::Global;
 
 /// Runs a loaded program on as many contexts as there are numbers to write, which have one size and stand one after the other, and
@@ -31,7 +31,7 @@ pub extern "C" fn bpf_host_run_many(
     let Some(mut host) = handle.take(alloc) else {
         return 100;
     };
-    let stopped = run_each(&mut host, tenant, program, contexts, size, rets);
+    let stopped = host.run_many(tenant, program, contexts, size, rets);
     handle.put(host);
     report(stopped, refused)
 }
@@ -49,28 +49,6 @@ fn size_of_each(bytes: usize, count: usize) -> Option<usize>
     } else {
         None
     }
-}
-
-/// Runs a program on each context, up to one whose run doesn't end: the reply to that.
-fn run_each(
-    host: &mut Host,
-    tenant: u32,
-    program: u32,
-    contexts: &[u8],
-    size: usize,
-    rets: &mut [u64],
-) -> Option<Reply>
-    requires { size * length rets.old ≡ length contexts.now }
-    ensures { (n : ℕ) × HaveRun tenant program contexts.now size rets.old rets.new n result host.old host.new }
-{
-    for number in 0..rets.len() {
-        let at = number * size;
-        match host.run(tenant, program, &contexts[at..at + size]) {
-            Reply::Ended { ret, steps: _ } => rets[number] = ret,
-            stopped => return Some(stopped),
-        }
-    }
-    None
 }
 
 /// What a call returns that was stopped by a reply, or by none, and what it writes of a refusal.

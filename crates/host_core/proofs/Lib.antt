@@ -15,4 +15,5 @@ pub mod OneStep
 pub mod Stepping
 pub mod Unreserved
 pub mod Making
+pub mod Sequences
 pub mod FoundOpen

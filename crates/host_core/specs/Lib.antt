@@ -2,3 +2,4 @@ pub mod World
 pub mod Happens
 pub mod HostView
 pub mod Batches
+pub mod Many

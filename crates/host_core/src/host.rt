@@ -1,4 +1,4 @@
-ghost use Rattle.std.specs.Prelude.{◌≡◌, ◌≢◌, ◌≤◌, ◌↔◌, ◌⊎◌, ◌*◌, IsSome, IsTrue, None, IfOk, OnOk, IfErr, OnErr, option_map};
+ghost use Rattle.std.specs.Prelude.{◌≡◌, ◌≢◌, ◌≤◌, ◌↔◌, ◌⊎◌, ◌*◌, ℕ, length, IsSome, IsTrue, None, IfOk, OnOk, IfErr, OnErr, option_map};
 ghost use Rattle.host_types.specs.Memory.{map_at};
 ghost use Rattle.page_table.specs.State.{part};
 ghost use Rattle.host_types.specs.OptionTable.{AreOptions};
@@ -7,10 +7,12 @@ ghost use Rattle.page_table.specs.Limits.{AreLimits};
 ghost use Rattle.host_core.specs.World.{System, IsCovered, FoundIsOpen, new_system};
 ghost use Rattle.host_core.specs.Happens.{Happens, IsPromised, AllHappen, RunHappens, StepsHappen, SetHappens, UnmergeHappens, JoinHappens, SplitHappens};
 ghost use Rattle.host_core.specs.HostView.{StandsForSystem, IsCopied, event_of, reply_of};
+ghost use Rattle.host_core.specs.Many.{HaveRun};
 ghost use Rattle.host_types.specs.declared.fault.Fault.TheVariants.{OutOfMemory};
 ghost use Rattle.host_types.specs.declared.event.Event.TheVariants.{CreateMap, Load, Begin, HostUpdate, HostLookup, Unload, DropMap, Visit};
 ghost use Rattle.host_core.specs.declared.reply.Reply.{Reply as KnownReply};
 
+use crate::open_run::{LOOP_OF_MANY, SHARED_LOOP};
 use crate::reply::Reply;
 use crate::tenant::Tenant;
 use crate::tenant_event::TenantEvent;
@@ -176,12 +178,44 @@ impl Host {
         ensures { (x : System) → StandsForSystem self.old x
             → (next : System) × StandsForSystem self.new next × RunHappens x tenant program context.now result next }
     {
+        self.run_alone::<SHARED_LOOP>(tenant, program, context)
+    }
+
+    /// Makes a whole run of a tenant's loaded program on each of some contexts, which have one size and stand one after the other, as `run`
+    /// does, and writes what each returns. It stops at the first that doesn't end, whose reply it gives.
+    pub fn run_many(
+        &mut self,
+        tenant: u32,
+        program: u32,
+        contexts: &[u8],
+        size: usize,
+        rets: &mut [u64],
+    ) -> Option<Reply>
+        requires { size * length rets.old ≡ length contexts.now }
+        ensures { (n : ℕ) × HaveRun tenant program contexts.now size rets.old rets.new n result self.old self.new }
+    {
+        for number in 0..rets.len() {
+            let at = number * size;
+            match self.run_alone::<LOOP_OF_MANY>(tenant, program, &contexts[at..at + size]) {
+                Reply::Ended { ret, steps: _ } => rets[number] = ret,
+                stopped => return Some(stopped),
+            }
+        }
+        None
+    }
+
+    /// Makes a whole run. The parameter is that of the tenant's maps.
+    #[inline(always)]
+    fn run_alone<const LOOP: u8>(&mut self, tenant: u32, program: u32, context: &[u8]) -> Reply
+        ensures { (x : System) → StandsForSystem self.old x
+            → (next : System) × StandsForSystem self.new next × RunHappens x tenant program context.now result next }
+    {
         self.memory.facts();
         let index = tenant as usize;
         if index >= self.tenants.len() {
             return Reply::Refused(Fault::BadTenant);
         }
-        self.tenants[index].run(&mut self.memory, tenant, program, context)
+        self.tenants[index].run::<LOOP>(&mut self.memory, tenant, program, context)
     }
 
     /// The shape of a tenant's map, if it has one of this number.

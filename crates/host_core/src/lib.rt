@@ -3,6 +3,7 @@
 #![tactic(auto)]
 
 mod host;
+mod open_run;
 mod reply;
 mod tenant;
 mod tenant_event;

@@ -17,7 +17,7 @@ impl Tenant {
     /// beginning. A run that asks for no update or deletion is never noted as open, and nothing is recorded as reserved for it:
     /// nobody could see that.
     #[inline(always)]
-    pub(crate) fn run(
+    pub(crate) fn run<const LOOP: u8>(
         &mut self,
         memory: &mut Memory,
         number: u32,
@@ -40,7 +40,7 @@ impl Tenant {
             return Reply::Refused(fault);
         }
         memory.facts();
-        let ended = open.advance_started(verified, memory, number, ALL_STEPS);
+        let ended = open.advance_started::<LOOP>(verified, memory, number, ALL_STEPS);
         memory.facts();
         let steps = open.run.steps();
         let Some(ret) = ended else {

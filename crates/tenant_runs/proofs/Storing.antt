@@ -1,21 +1,17 @@
 -- A store of a run in its loop.
-use Rattle.std.proofs.Common.{◌≡◌, ◌≤◌, ◌+◌, ◌*◌, ◌%◌, ◌<◌, inl, inr, ℕ, Bool, true, false, List, [], length, take, drop, Option, Some, None, refl, sym, ap, ◌∙◌, arith}
+use Rattle.std.proofs.Common.{◌≡◌, ◌≤◌, ◌+◌, ◌*◌, ◌%◌, ◌<◌, inl, inr, ℕ, Bool, true, [], length, take, drop, Option, Some, None, refl, ap, ◌∙◌, arith}
 use Rattle.std.proofs.lemmas.Bool.{cases_lt}
 use Rattle.std.proofs.lemmas.List.{get_or_past, length-drop, length-take}
 use Rattle.host_types.specs.Bytes.{part_of}
 use Rattle.host_types.specs.Memory.{FlatMap, map_at}
-use Rattle.host_types.specs.Sharing.{Sharing, state_at, is_shared_page}
-use Rattle.host_types.specs.Pins.{broken_for_run}
+use Rattle.host_types.specs.Sharing.{Sharing}
 use Rattle.host_types.specs.Tenant.{TenantPart, AreFlatMaps}
-use Rattle.host_types.proofs.Unmerging.{broken-own}
-use Rattle.host_types.proofs.Pins.{by-own}
 use Rattle.page_table.specs.Changes.{pages_of_map}
 use Rattle.page_table.specs.Reads.{ReadsAs}
 use Rattle.page_table.specs.State.{MemoryState, part, map_bytes, have_of}
 use Rattle.write_break.specs.Stores.{part_stored, with_pins_of, stored_sharing, store_frames}
 use Rattle.write_break.proofs.Stores.{touched-within}
 use Rattle.admission.specs.Reserve.{needed_by}
-use Rattle.admission.proofs.Falling.{needed_kept, needed_falls}
 use Rattle.bpf_decode.specs.declared.operation.Size.{Size}
 use Rattle.bpf_decode.specs.Opcodes.{byte_count}
 use Rattle.interp.specs.declared.need.Need.TheVariants.{Store}
@@ -23,7 +19,7 @@ use Rattle.interp.specs.OnMaps.{HasRoomFor, KeepsRoom}
 use Rattle.interp.specs.StandsFor.{AreAmong}
 use Rattle.tenant_runs.specs.Storing.{HasStoreFrames}
 use Rattle.tenant_runs.proofs.Rooms.{in_page, some_bytes}
-use Rattle.tenant_runs.proofs.Pinning.{own_pins, pages_after, stored_pays}
+use Rattle.tenant_runs.proofs.Pinning.{pages_after, stored_pays}
 
 -- ---- the room
 

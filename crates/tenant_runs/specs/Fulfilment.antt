@@ -25,9 +25,15 @@ frames_fulfilled owned sharing tenant (Store m at size number) = store_frames sh
 frames_fulfilled owned sharing tenant (Update m key flags) = update_frames owned sharing tenant m key flags
 frames_fulfilled owned sharing tenant need = 0
 
--- the tenant's part afterwards, but for its pins: nothing is reserved for its run
+-- what is reserved for the run afterwards: nothing where a map may be written, and else what was
+abbrev pub reserve_fulfilled : Need → ℕ → ℕ
+reserve_fulfilled (Store m at size number) reserve = 0
+reserve_fulfilled (Update m key flags) reserve = 0
+reserve_fulfilled need reserve = reserve
+
+-- the tenant's part afterwards, but for its pins
 abbrev pub part_fulfilled : TenantPart → Need → List ℕ → TenantPart
-part_fulfilled owned need value = record owned { maps = maps_after need value owned.maps; reserve = 0 }
+part_fulfilled owned need value = record owned { maps = maps_after need value owned.maps; reserve = reserve_fulfilled need owned.reserve }
 
 -- which pages share frames afterwards: those that are written are broken, and pinned where the tenant has an open run
 abbrev pub sharing_fulfilled : TenantPart → Sharing → ℕ → Need → Sharing

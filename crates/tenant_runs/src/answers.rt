@@ -1,8 +1,8 @@
-ghost use Rattle.std.specs.Prelude.{◌≡◌, ◌+◌, ◌≤◌, ℕ, Some};
+ghost use Rattle.std.specs.Prelude.{◌≡◌, ◌+◌, ◌≤◌, ℕ, length, Some};
 ghost use Rattle.bpf_decode.specs.Text.{instructions_of};
 ghost use Rattle.verifier.specs.Verified.{Accepted};
-ghost use Rattle.page_table.specs.State.{part};
-ghost use Rattle.page_table.specs.Changes.{OtherTenantsUnchanged};
+ghost use Rattle.page_table.specs.State.{part, have_of};
+ghost use Rattle.page_table.specs.Changes.{OtherTenantsUnchanged, with_record, with_reserve};
 ghost use Rattle.admission.specs.Reserve.{needed_from};
 ghost use Rattle.interp.specs.Machine.{MachineState, Next, Exits, step};
 ghost use Rattle.interp.specs.Runs.{Reaches};
@@ -11,7 +11,7 @@ ghost use Rattle.tenant_runs.specs.UnderWay.{IsUnderWay, IsAsking, part_with_hav
 
 use crate::maps::TenantMaps;
 use crate::needs::fulfil;
-use admission::{lower, needed};
+use admission::{lower, needed, needed_within};
 use interp::{Need, Run};
 use page_table::Memory;
 use verifier::Verified;
@@ -44,12 +44,55 @@ pub fn answer(memory: &mut Memory, tenant: u32, program: &Verified, run: &mut Ru
     memory.record(tenant, left);
 }
 
+/// Does what `answer` does, where what is reserved for the run is enough for it. It writes nothing after a load or a lookup but what is
+/// reserved for the rest of the run, where that is less than before.
+pub fn answer_recorded(
+    memory: &mut Memory,
+    tenant: u32,
+    program: &Verified,
+    run: &mut Run,
+    need: Need,
+)
+    requires asks { (s : MachineState) × IsAsking program.now s need run.old (part memory.old tenant) }
+    ensures goes_on { (s : MachineState) → IsAsking program.now s need run.old (part memory.old tenant)
+        → (next : MachineState) × (step program.now.subject.text s ≡ Some (Next next)) × IsUnderWay program.now run.new next (part memory.new tenant) }
+    ensures reserve { (part memory.new tenant).reserve ≡ needed_from program.now (part memory.new tenant) run.old.slot }
+    ensures steps { run.new.steps ≡ run.old.steps }
+    ensures others { OtherTenantsUnchanged tenant memory.old memory.new }
+    ensures sharing { memory.new.sharing ≡ sharing_fulfilled (part memory.old tenant) memory.old.sharing tenant need }
+    ensures sizes { KeepsSizes memory.old memory.new }
+{
+    let recorded = memory.reserve(tenant);
+    respond(memory, tenant, run, need);
+    let left = needed_within(program, memory, tenant, run.slot(), recorded);
+    record_left(memory, tenant, left);
+}
+
+/// Records what is reserved for the rest of a run. Many answers leave it as it is: then nothing is written.
+#[inline(always)]
+#[tactic(auto, using(admission::proofs::Records::part_kept, admission::proofs::Records::memory_kept))]
+fn record_left(memory: &mut Memory, tenant: u32, left: u32)
+    requires there { length (part memory.old tenant).maps ≡ 8 }
+    requires room { left ≤ have_of memory.old + (part memory.old tenant).reserve }
+    ensures recorded { part memory.new tenant ≡ with_reserve left (part memory.old tenant) }
+    ensures others { OtherTenantsUnchanged tenant memory.old memory.new }
+    ensures all { memory.new ≡ with_record memory.old tenant left }
+{
+    if memory.reserve(tenant) != left {
+        memory.record(tenant, left);
+    }
+}
+
 /// Does what a tenant's run asks, and gives it the answer. What is recorded for the run after it and what `have()` gives
-/// are together enough for the rest of it: whoever stops there records what that may need.
+/// are together enough for the rest of it: whoever stops there records what that may need. It is part of each caller: one that knows what
+/// is asked goes straight to it.
+#[inline(always)]
 fn respond(memory: &mut Memory, tenant: u32, run: &mut Run, need: Need)
     requires asks { (v : Accepted) × (s : MachineState) × IsAsking v s need run.old (part_with_have memory.old tenant) }
     ensures goes_on { (v : Accepted) (s : MachineState) → IsAsking v s need run.old (part_with_have memory.old tenant)
         → (next : MachineState) × (step v.subject.text s ≡ Some (Next next)) × IsUnderWay v run.new next (part_with_have memory.new tenant) }
+    ensures less { (v : Accepted) (s : MachineState) → IsAsking v s need run.old (part_with_have memory.old tenant)
+        → needed_from v (part memory.new tenant) run.new.slot ≤ needed_from v (part memory.old tenant) s.slot }
     ensures slot { run.new.slot ≡ run.old.slot }
     ensures steps { run.new.steps ≡ run.old.steps }
     ensures others { OtherTenantsUnchanged tenant memory.old memory.new }
@@ -78,7 +121,7 @@ pub fn finish(memory: &mut Memory, tenant: u32, program: &Verified, run: &mut Ru
     ensures sizes { KeepsSizes memory.old memory.new }
 {
     program.facts();
-    let maps = TenantMaps { tenant };
+    let maps = TenantMaps::<0> { tenant };
     loop {
         // All that is reserved for the run may be had while it makes its steps.
         lower(memory, tenant, 0);

@@ -9,7 +9,7 @@ mod maps;
 mod needs;
 mod whole_run;
 
-pub use answers::{RunReply, answer, finish};
+pub use answers::{RunReply, answer, answer_recorded, finish};
 pub use begin::{open_run, reopen_run, reopen_unreserved};
 pub use maps::TenantMaps;
 pub use needs::fulfil;

@@ -11,13 +11,14 @@ use interp::MapMemory;
 use page_table::Memory;
 use write_break::{load, store};
 
-/// The maps of a tenant, in the memory of all.
+/// The maps of a tenant, in the memory of all. The parameter tells loops apart that run on them, and means nothing else: where one caller
+/// alone has a number, the loop is compiled as part of that caller.
 #[derive(Clone, Copy)]
-pub struct TenantMaps {
+pub struct TenantMaps<const LOOP: u8> {
     pub tenant: u32,
 }
 
-impl MapMemory for TenantMaps {
+impl<const LOOP: u8> MapMemory for TenantMaps<LOOP> {
     type Memory = Memory;
 
     ghost maps = { λ of memory. maps_of_part of.tenant memory };

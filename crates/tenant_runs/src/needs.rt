@@ -13,9 +13,10 @@ use page_table::Memory;
 use write_break::{load, store};
 
 /// Does what a tenant's run asks of its maps, and gives the answer, which is 0 after a store. The frames
-/// that it takes are reserved for the run or may be had, so all that is reserved may be had while it's done;
+/// that it takes are reserved for the run or may be had, so where it may write, all that is reserved may be had while it's done;
 /// what is left of the run is to be recorded after it. Pages that share their frames are taken out before
 /// they are written, and pinned for the run.
+#[inline(always)]
 pub fn fulfil(memory: &mut Memory, tenant: u32, need: Need, value: &[u8]) -> u64
     requires there { length (part memory.old tenant).maps ≡ 8 }
     requires may { MayFulfil (part memory.old tenant) need value.now }
@@ -24,12 +25,11 @@ pub fn fulfil(memory: &mut Memory, tenant: u32, need: Need, value: &[u8]) -> u64
     ensures part { part memory.new tenant ≡ with_pins_of memory.new.sharing tenant (part_fulfilled (part memory.old tenant) need value.now) }
     ensures others { OtherTenantsUnchanged tenant memory.old memory.new }
     ensures sharing { memory.new.sharing ≡ sharing_fulfilled (part memory.old tenant) memory.old.sharing tenant need }
-    ensures have { have_of memory.new + frames_fulfilled (part memory.old tenant) memory.old.sharing tenant need
+    ensures have { have_of memory.new + (part memory.new tenant).reserve + frames_fulfilled (part memory.old tenant) memory.old.sharing tenant need
         ≡ have_of memory.old + (part memory.old tenant).reserve }
     ensures sizes { KeepsSizes memory.old memory.new }
 {
     memory.maps_are_flat();
-    memory.record(tenant, 0);
     match need {
         Need::Load { map, at, size } => load(memory, tenant, map, at, size.bytes()),
         Need::Store {
@@ -38,11 +38,15 @@ pub fn fulfil(memory: &mut Memory, tenant: u32, need: Need, value: &[u8]) -> u64
             size,
             value,
         } => {
+            memory.record(tenant, 0);
             store(memory, tenant, map, at, size.bytes(), value);
             0
         }
         Need::Lookup { map, key } => look_up(memory, tenant, map, key),
-        Need::Update { map, key, flags } => update(memory, tenant, map, key, value, flags),
+        Need::Update { map, key, flags } => {
+            memory.record(tenant, 0);
+            update(memory, tenant, map, key, value, flags)
+        }
         Need::Delete { .. } => delete(),
         Need::Private | Need::Ended(_) => unreachable!(),
     }

@@ -11,7 +11,7 @@ use crate::gate::Gate;
 use crate::shared::Shared;
 use interp::{Need, Run};
 use std::sync::Wait;
-use tenant_runs::{RunReply, answer};
+use tenant_runs::{RunReply, answer_recorded};
 use turn::Seat;
 use verifier::Verified;
 
@@ -69,7 +69,6 @@ fn go_on(rt: &impl Wait, tenant: u32, program: &Verified, run: &mut Run, gate: &
 }
 
 /// The one turn in which what a run asks is done and answered.
-#[tactic(auto, using(tenant_runs::proofs::Roomy::asking_roomy))]
 fn fulfil(
     shared: &Shared,
     rt: &impl Wait,
@@ -89,6 +88,6 @@ fn fulfil(
 {
     let tenant = seat.tenant();
     let mut held = shared.turn.take(rt, seat);
-    answer(held.memory_mut(), tenant, program, run, need);
+    answer_recorded(held.memory_mut(), tenant, program, run, need);
     shared.turn.give(seat, held);
 }

@@ -58,3 +58,18 @@ returns-clause-goes_on c v s asking =
         reserve = subst (λ k. needed_from v (part_with_have c.fulfil-number.new.memory t) k ≤ have_of c.fulfil-number.new.memory + later.reserve) (sym slot) left;
       },
     )
+
+pub returns-clause-less : goal.returns-clause-less
+returns-clause-less c v s asking =
+    let run = c.args.run.now in
+    let t = c.args.tenant in
+    let old = c.args.memory.now in
+    let owned = part old t in
+    let later = part c.fulfil-number.new.memory t in
+    let flat = c.maps_are_flat.ensures.flat t asking.eight in
+    let pins = ap (λ (one : TenantPart). one.pins) c.fulfil-number.ensures.part ∙ ap (λ (sharing : Sharing). part_of sharing.pins (t * 2048) 2048) c.fulfil-number.ensures.sharing in
+    let pages : (k : ℕ) → pages_of_map later k ≡ pages_of_map owned k =
+    λ k. ap (λ (one : TenantPart). pages_of_map one k) c.fulfil-number.ensures.part ∙ pages_after c.args.need c.match-need.value.now owned.maps k in
+    let pays = fulfilled_pays v s c.args.need run old t later c.facts.ensures flat asking pins pages in
+    let slot : c.answer.new.self.slot ≡ run.slot = ap (λ (one : Running). one.slot) c.answer.ensures ∙ answered_slot run.awaited run c.fulfil-number.result in
+    subst (λ k. needed_from v later k ≤ needed_from v owned s.slot) (sym slot) (omega (arith, pays))

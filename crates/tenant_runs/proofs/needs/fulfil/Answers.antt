@@ -1,7 +1,7 @@
 use Rattle.std.proofs.Common.{ap, ◌∙◌, arith}
 use Rattle.host_types.specs.Tenant.{TenantPart}
 use Rattle.page_table.specs.State.{MemoryState, part}
-use Rattle.write_break.specs.Stores.{store_frames, with_pins_of}
+use Rattle.write_break.specs.Stores.{store_frames}
 use Rattle.map_helpers.specs.Updates.{update_frames}
 use Rattle.bpf_decode.specs.Opcodes.{byte_count}
 use Rattle.tenant_runs.proofs.Pinning.{pinned_itself}
@@ -18,43 +18,28 @@ pub update-requires-clause-room : goal.update-requires-clause-room
 update-requires-clause-room c =
     let room = rw c.in-Update.is at c.requires.room in
     let same =
-    ap (λ (owned : TenantPart). update_frames owned c.record.new.self.sharing c.args.tenant c.in-Update.map c.in-Update.key c.in-Update.flags) c.record.ensures.recorded
-    ∙ ap (λ (memory : MemoryState). update_frames (part c.args.memory.now c.args.tenant) memory.sharing c.args.tenant c.in-Update.map c.in-Update.key c.in-Update.flags) c.record.ensures.all in
-    omega (arith, room, same, c.record.ensures.have)
+    ap (λ (owned : TenantPart). update_frames owned c.record-in-Update.new.self.sharing c.args.tenant c.in-Update.map c.in-Update.key c.in-Update.flags) c.record-in-Update.ensures.recorded
+    ∙ ap (λ (memory : MemoryState). update_frames (part c.args.memory.now c.args.tenant) memory.sharing c.args.tenant c.in-Update.map c.in-Update.key c.in-Update.flags) c.record-in-Update.ensures.all in
+    omega (arith, room, same, c.record-in-Update.ensures.have)
 
 pub returns-in-Update-clause-answer : goal.returns-in-Update-clause-answer
 returns-in-Update-clause-answer c =
     let owned = part c.args.memory.now c.args.tenant in
-    let same = ap (λ (o : TenantPart). o.maps) c.record.ensures.recorded in
+    let same = ap (λ (o : TenantPart). o.maps) c.record-in-Update.ensures.recorded in
     let helped = rw same at c.update.ensures.helped in
     rw c.in-Update.is (update_answered owned c.in-Update.map c.in-Update.key c.in-Update.flags c.update.result c.args.value.now _ (rw c.in-Update.is at c.requires.may) helped)
-
-pub returns-in-Load-clause-sizes : goal.returns-in-Load-clause-sizes
-returns-in-Load-clause-sizes c = record_keeps c.args.memory.now c.record.new.self c.args.tenant 0 c.record.ensures.all
-
-pub returns-in-Lookup-clause-sizes : goal.returns-in-Lookup-clause-sizes
-returns-in-Lookup-clause-sizes c = record_keeps c.args.memory.now c.record.new.self c.args.tenant 0 c.record.ensures.all
-
-pub returns-in-Delete-clause-sizes : goal.returns-in-Delete-clause-sizes
-returns-in-Delete-clause-sizes c = record_keeps c.args.memory.now c.record.new.self c.args.tenant 0 c.record.ensures.all
 
 pub returns-in-Store-clause-sizes : goal.returns-in-Store-clause-sizes
 returns-in-Store-clause-sizes c = keeps_after c.args.memory.now c.record.new.self c.store.new.memory (record_keeps c.args.memory.now c.record.new.self c.args.tenant 0 c.record.ensures.all) c.store.ensures.settings
 
 pub returns-in-Update-clause-sizes : goal.returns-in-Update-clause-sizes
-returns-in-Update-clause-sizes c = keeps_after c.args.memory.now c.record.new.self c.update.new.memory (record_keeps c.args.memory.now c.record.new.self c.args.tenant 0 c.record.ensures.all) c.update.ensures.settings
+returns-in-Update-clause-sizes c = keeps_after c.args.memory.now c.record-in-Update.new.self c.update.new.memory (record_keeps c.args.memory.now c.record-in-Update.new.self c.args.tenant 0 c.record-in-Update.ensures.all) c.update.ensures.settings
 
 pub returns-in-Load-clause-part : goal.returns-in-Load-clause-part
-returns-in-Load-clause-part c =
-    let t = c.args.tenant in
-    rw c.in-Load.is (pinned_itself c.record.new.self t ∙ ap (with_pins_of c.record.new.self.sharing t) c.record.ensures.recorded)
+returns-in-Load-clause-part c = rw c.in-Load.is (pinned_itself c.args.memory.now c.args.tenant)
 
 pub returns-in-Lookup-clause-part : goal.returns-in-Lookup-clause-part
-returns-in-Lookup-clause-part c =
-    let t = c.args.tenant in
-    rw c.in-Lookup.is (pinned_itself c.record.new.self t ∙ ap (with_pins_of c.record.new.self.sharing t) c.record.ensures.recorded)
+returns-in-Lookup-clause-part c = rw c.in-Lookup.is (pinned_itself c.args.memory.now c.args.tenant)
 
 pub returns-in-Delete-clause-part : goal.returns-in-Delete-clause-part
-returns-in-Delete-clause-part c =
-    let t = c.args.tenant in
-    rw c.in-Delete.is (pinned_itself c.record.new.self t ∙ ap (with_pins_of c.record.new.self.sharing t) c.record.ensures.recorded)
+returns-in-Delete-clause-part c = rw c.in-Delete.is (pinned_itself c.args.memory.now c.args.tenant)

@@ -3,7 +3,6 @@ use Rattle.host_types.specs.Tenant.{TenantPart}
 use Rattle.page_table.specs.State.{part}
 use Rattle.turn.specs.Seats.{own_part}
 use Rattle.tenant_runs.specs.UnderWay.{IsUnderWay, IsAsking}
-use Rattle.tenant_runs.proofs.Roomy.{asking_roomy}
 use Rattle.tenant_workers.proofs.steps.fulfil.Goals as goal
 
 -- the tenant's part of the memory that was taken is the seat's, and that of the memory that is given is the seat's later
@@ -16,6 +15,6 @@ returns-clause-goes_on g c s asking =
     let same : part c.memory_mut.result.now t ≡ own_part c.args.seat.now =
     ap (λ memory. part memory t) c.memory_mut.ensures.value ∙ c.take-held.ensures.known t (omega (arith, first, alone), omega (arith, first, alone)) ∙ ap (part c.args.seat.now.view.seen) (sym first) in
     let asks : IsAsking v s c.args.need c.args.run.now (part c.memory_mut.result.now t) = subst (λ (owned : TenantPart). IsAsking v s c.args.need c.args.run.now owned) (sym same) asking in
-    let (next, makes, way) = c.answer.ensures.goes_on s (asking_roomy v s c.args.need c.args.run.now c.memory_mut.result.now t asks) in
-    let later : part c.answer.new.memory t ≡ own_part c.give.new.seat = search rules in
-    (next, makes, subst (λ (owned : TenantPart). IsUnderWay v c.answer.new.run next owned) later way)
+    let (next, makes, way) = c.answer_recorded.ensures.goes_on s asks in
+    let later : part c.answer_recorded.new.memory t ≡ own_part c.give.new.seat = search rules in
+    (next, makes, subst (λ (owned : TenantPart). IsUnderWay v c.answer_recorded.new.run next owned) later way)

@@ -5,8 +5,8 @@ use Rattle.std.proofs.lemmas.Nat.{mod-mul-add}
 use Rattle.host_types.specs.Bytes.{part_of}
 use Rattle.host_core.specs.declared.reply.Reply.TheVariants.{Ended}
 use Rattle.host_core.specs.World.{System}
-use Rattle.bpf_host_c.specs.Answered.{RunsWhole}
-use Rattle.bpf_host_c.specs.Many.{context_at, RunsFirst}
+use Rattle.host_core.specs.Happens.{RunHappens}
+use Rattle.host_core.specs.Many.{context_at, RunsFirst}
 
 module _ (t k : ℕ) (contexts : List ℕ) (size : ℕ) where
   -- of the numbers only those of these runs count
@@ -17,7 +17,7 @@ module _ (t k : ℕ) (contexts : List ℕ) (size : ℕ) where
       (between, same_first rets others n x between (λ i less. same i (omega (arith, less))) first, (steps, rw here whole))
 
   -- one run more
-  pub runs_next : (rets : List ℕ) (n ret steps : ℕ) (x between x' : System) → n < length rets → RunsFirst t k contexts size rets n x between → RunsWhole t k (context_at contexts size n) (Ended ret steps) between x'
+  pub runs_next : (rets : List ℕ) (n ret steps : ℕ) (x between x' : System) → n < length rets → RunsFirst t k contexts size rets n x between → RunHappens between t k (context_at contexts size n) (Ended ret steps) x'
       → RunsFirst t k contexts size (slice_set rets n ret) (n + 1) x x'
   runs_next rets n ret steps x between x' there first whole =
       let here : slice_index_or (slice_set rets n ret) n 0 ≡ ret = get_or-set_same rets n ret 0 there in

@@ -1,9 +1,9 @@
 use Rattle.std.proofs.Common.{◌≡◌, ◌<◌, ◌*◌, length, refl, ◌∙◌, subst, arith}
 use Rattle.std.proofs.lemmas.List.{length-set}
 use Rattle.host_core.specs.declared.reply.Reply.TheVariants.{Ended}
-use Rattle.bpf_host_c.specs.Answered.{RunsWhole}
-use Rattle.bpf_host_c.proofs.Sequences.{runs_next, between_ends, later_kept}
-use Rattle.bpf_host_c.proofs.many.run_each.Goals as goal
+use Rattle.host_core.specs.Happens.{RunHappens}
+use Rattle.host_core.proofs.Sequences.{runs_next, between_ends, later_kept}
+use Rattle.host_core.proofs.host.Host.run_many.Goals as goal
 
 pub loop-number-init : goal.loop-number-init
 loop-number-init c = record { long = refl; others = refl; runs = λ x stands. (x, stands, refl) }
@@ -17,8 +17,8 @@ loop-number-preserved c =
       others = later_kept written c.args.rets.now c.loop-number.number c.in-Ended.ret c.loop-number.invariant.others;
       runs = λ x stands.
           let before = c.loop-number.invariant.runs x stands in
-          let after = c.run.ensures before.0 before.1 in
-          let whole = subst (λ context. RunsWhole c.args.tenant c.args.program context (Ended c.in-Ended.ret c.in-Ended.steps) before.0 after.0) (between_ends c.args.contexts.now (c.loop-number.number * c.args.size) c.args.size) (rw c.in-Ended.is at after.2) in (
+          let after = c.run_alone.ensures before.0 before.1 in
+          let whole = subst (λ context. RunHappens before.0 c.args.tenant c.args.program context (Ended c.in-Ended.ret c.in-Ended.steps) after.0) (between_ends c.args.contexts.now (c.loop-number.number * c.args.size) c.args.size) (rw c.in-Ended.is at after.2) in (
             after.0,
             after.1,
             runs_next c.args.tenant c.args.program c.args.contexts.now c.args.size written c.loop-number.number c.in-Ended.ret c.in-Ended.steps x before.0 after.0 within before.2 whole,
@@ -48,8 +48,8 @@ returns-in_default c = (
     others = c.loop-number.invariant.others;
     runs = λ x stands.
         let (between, there, first) = c.loop-number.invariant.runs x stands in
-        let (after, stands_after, whole) = c.run.ensures between there in
-        let same = subst (λ context. RunsWhole c.args.tenant c.args.program context c.run.result between after) (between_ends c.args.contexts.now (c.loop-number.number * c.args.size) c.args.size) whole in
+        let (after, stands_after, whole) = c.run_alone.ensures between there in
+        let same = subst (λ context. RunHappens between c.args.tenant c.args.program context c.run_alone.result after) (between_ends c.args.contexts.now (c.loop-number.number * c.args.size) c.args.size) whole in
         (after, stands_after, (between, first, (λ ret steps is. c.in_default.not-Ended ret steps is, same)));
   },
 )
