@@ -52,7 +52,7 @@ extern "C" {
 #endif
 
 /* The version of this header. It is that of the library where bpf_host_version returns the same. */
-#define BPF_HOST_VERSION 3
+#define BPF_HOST_VERSION 4
 
 /* A handle: {0} is closed. */
 struct bpf_host {
@@ -273,31 +273,12 @@ uint32_t bpf_host_explain(const uint8_t *text, size_t text_len, const struct bpf
 uint32_t bpf_host_read_object(const uint8_t *file, size_t file_len, const char *name, size_t name_len, uint32_t context_size,
                               struct bpf_host_object *object, struct bpf_host_refused *refused);
 
-/* Makes the maps of an object that was read, and loads its program, for a tenant that has no map, since a text names maps by number. A further
- * program of the same file is loaded by bpf_host_load, from the text that is read under its name: its maps have the same numbers. What is refused
- * leaves no map. Refused: HAS_MAPS, and what bpf_host_create_map, bpf_host_update and bpf_host_load refuse. */
-static inline uint32_t bpf_host_load_object(struct bpf_host *host, uint32_t tenant, const struct bpf_host_object *object, bool mergeable,
-                                            uint32_t *program, struct bpf_host_refused *refused)
-{
-    struct bpf_host_shape shape;
-    uint32_t code = 0, made = 0, number;
-    for (uint32_t map = 0; map < 8; map++)
-        if (bpf_host_shape(host, tenant, map, &shape) == 0)
-            return BPF_HOST_HAS_MAPS;
-    while (code == 0 && made < object->maps_len) {
-        const struct bpf_host_object_map *map = &object->maps[made];
-        code = bpf_host_create_map(host, tenant, map->shape.value_size, map->shape.entries, mergeable, &number, refused);
-        if (code == 0)
-            made++;
-        if (code == 0 && map->first_len != 0)
-            code = bpf_host_update(host, tenant, number, 0, map->first, map->first_len, refused);
-    }
-    if (code == 0)
-        code = bpf_host_load(host, tenant, object->text, object->text_len, object->context_size, program, refused);
-    while (code != 0 && made > 0)
-        bpf_host_drop_map(host, tenant, --made);
-    return code;
-}
+/* Makes the maps of an object that was read, by number and with their first values, and loads its program, for a tenant that has no map, since a
+ * text names maps by number. A further program of the same file is loaded by bpf_host_load, from the text that is read under its name: its maps
+ * have the same numbers. Where that is refused, the tenant's maps are dropped. Refused: CLOSED, WRONG_LENGTH where a length is more than its array
+ * has, HAS_MAPS, and what bpf_host_create_map, bpf_host_update and bpf_host_load refuse. */
+uint32_t bpf_host_load_object(struct bpf_host *host, uint32_t tenant, const struct bpf_host_object *object, bool mergeable, uint32_t *program,
+                              struct bpf_host_refused *refused);
 
 /* The name of what a call returned. */
 static inline const char *bpf_host_code_name(uint32_t code)

@@ -103,7 +103,7 @@ static void test_merged_objects(void)
     }
 }
 
-/* A step that is refused leaves no map: for want of frames, or of a text that isn't taken. */
+/* A step that is refused leaves no map: for want of frames, of a text that isn't taken, or of right lengths. */
 static void test_refused_objects(void)
 {
     struct bpf_host host = {0};
@@ -121,6 +121,15 @@ static void test_refused_objects(void)
     object.context_size = 0;
     object.maps[2].first_len = 9;
     CHECK(bpf_host_load_object(&host, 0, &object, true, &program, &refused), BPF_HOST_BAD_SHAPE);
+    check_no_maps(&host, 0);
+    object.maps[2].first_len = 4097;
+    CHECK(bpf_host_load_object(&host, 0, &object, true, &program, &refused), BPF_HOST_WRONG_LENGTH);
+    object.maps[2].first_len = 0;
+    object.maps_len = 9;
+    CHECK(bpf_host_load_object(&host, 0, &object, true, &program, &refused), BPF_HOST_WRONG_LENGTH);
+    object.maps_len = 3;
+    object.text_len = 32769;
+    CHECK(bpf_host_load_object(&host, 0, &object, true, &program, &refused), BPF_HOST_WRONG_LENGTH);
     check_no_maps(&host, 0);
     CHECK(program, 99);
     bpf_host_free(&host);

@@ -5,3 +5,4 @@ pub mod Buffers
 pub mod Textual
 pub mod WrittenMaps
 pub mod Reasons
+pub mod InOrder

@@ -7,3 +7,4 @@ pub mod Texts
 pub mod Written
 pub mod Objects
 pub mod Many
+pub mod Loading

@@ -9,6 +9,7 @@ mod explain;
 mod given;
 mod handle;
 mod life;
+mod loading;
 mod loose;
 mod many;
 mod not_read;
@@ -29,6 +30,7 @@ pub use calls::{
 pub use explain::bpf_host_explain;
 pub use handle::{BpfHost, handles_cross};
 pub use life::{bpf_host_free, bpf_host_new, bpf_host_version};
+pub use loading::bpf_host_load_object;
 pub use many::bpf_host_run_many;
 pub use object::{BpfHostObject, BpfHostObjectMap};
 pub use objects::bpf_host_read_object;

@@ -120,6 +120,26 @@ static unsigned objects_read(const char *path, uint32_t code_wanted)
     return number - 1;
 }
 
+/* A program with a map, loaded for a tenant that has none: where memory lacks it has none again, so that the same call succeeds. */
+static void load_an_object(struct bpf_host *host, const uint8_t *text, size_t len, const uint8_t *value)
+{
+    static struct bpf_host_object object;
+    struct bpf_host_refused refused = {0, 0, 0};
+    uint8_t found[8] = {0};
+    uint32_t number = 9;
+    object.context_size = 8;
+    object.text_len = (uint32_t)len;
+    object.maps_len = 2;
+    memcpy(object.text, text, len);
+    object.maps[0].shape = (struct bpf_host_shape){4, 2};
+    object.maps[1].shape = (struct bpf_host_shape){8, 1};
+    object.maps[1].first_len = 8;
+    memcpy(object.maps[1].first, value, 8);
+    AGAIN(bpf_host_load_object(host, 1, &object, true, &number, &refused));
+    wanted(number == 0, "another program of an object");
+    wanted(bpf_host_lookup(host, 1, 1, 0, found, sizeof found) == 0 && memcmp(found, value, sizeof found) == 0, "another first value");
+}
+
 static void list_of_calls(void)
 {
     static const uint8_t text[] = {0xb7, 0, 0, 0, 42, 0, 0, 0, 0x95, 0, 0, 0, 0, 0, 0, 0};
@@ -156,6 +176,7 @@ static void list_of_calls(void)
     AGAIN(bpf_host_visit(&host, 4, &counters));
     AGAIN(bpf_host_unload(&host, 0, 0));
     AGAIN(bpf_host_drop_map(&host, 0, 0));
+    load_an_object(&host, text, sizeof text, value);
     bpf_host_free(&host);
     calls_on_a_text(text, sizeof text);
 }

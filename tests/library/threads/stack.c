@@ -22,12 +22,13 @@ void check_at(const char *file, int line, const char *what, unsigned long long f
     }
 }
 
-static struct bpf_host host;
+static struct bpf_host host, other;
 static struct bpf_host_refused refused;
 static uint32_t number;
 static uint8_t branches[SLOTS][8], text[SLOTS][8], lowered[SLOTS][8], file[LONGEST];
 static char words[LONGEST];
 static size_t file_size, written;
+static unsigned loaded;
 static struct bpf_host_object object;
 static const char *object_path;
 
@@ -88,6 +89,12 @@ static void read_object(void)
     for (int name = 0; name < 2; name++)
         bpf_host_read_object(file, file_size, names[name], strlen(names[name]), 64, &object, &refused);
     checks++;
+}
+
+/* The object that was read last goes to a host of its own. */
+static void load_object(void)
+{
+    loaded += bpf_host_load_object(&other, 0, &object, false, &number, &refused) == 0;
 }
 
 static void *on_thread(void *call)
@@ -163,7 +170,11 @@ int main(int argc, char **argv)
         object_path = argv[at];
         read_path();
         check_call(object_path, read_object, LONG);
+        CHECK(bpf_host_new(64, 1, &(struct bpf_host_options)BPF_HOST_OPTIONS, &other), 0);
+        check_call("bpf_host_load_object of it", load_object, LOAD);
+        bpf_host_free(&other);
     }
+    CHECK(argc == 1 || loaded > 0, true);
     bpf_host_free(&host);
     printf("%u checks, %u failures\n", checks, failures);
     return failures != 0;
