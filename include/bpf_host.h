@@ -20,14 +20,15 @@
  *     CLOSED           the handle is closed
  *     OPEN_ALREADY     the handle is open already (bpf_host_new)
  *     WRONG_LENGTH     the buffer has another length than the value (bpf_host_lookup) or is too short (bpf_host_lower, bpf_host_explain), or the
- *                      contexts can't have one size (bpf_host_run_many)
+ *                      contexts can't have one size (bpf_host_run_many), or an object has a length that is more than its array's
+ *                      (bpf_host_load_object)
  *     BAD_OBJECT       the object file isn't taken: `object->why` says why (bpf_host_read_object)
  *     HAS_MAPS         the tenant has a map already (bpf_host_load_object)
  * bpf_host_lookup and bpf_host_update take no memory, and bpf_host_begin and _run only where the context is longer than those of the tenant's
  * runs before.
  * A call that doesn't return 0 changed nothing: neither the host nor what the caller's pointers lead to, but for the members of
- * `*refused` that the number speaks of (slot; need and have), `*written` where a buffer is too short, `object->why`, and what
- * bpf_host_run_many did before.
+ * `*refused` that the number speaks of (slot; need and have), `*written` where a buffer is too short, `object->why`, what bpf_host_run_many
+ * did before, and the maps that bpf_host_load_object made and dropped.
  *
  * WHAT THE CALLER OWES AT EACH CALL. No proof covers it.
  *   - No pointer is null, and each leads to an object of its type that is initialised: a `struct bpf_host` to all zeros at first, a `bool`
@@ -209,9 +210,9 @@ uint32_t bpf_host_unload(struct bpf_host *host, uint32_t tenant, uint32_t progra
 uint32_t bpf_host_run(struct bpf_host *host, uint32_t tenant, uint32_t program, const uint8_t *context, size_t context_len,
                       struct bpf_host_run *run, struct bpf_host_refused *refused);
 
-/* Runs a program once for each of `rets_len` contexts of one size, which stand one after the other, and writes what each run returns: in less
- * time than a call a run. It stops at the first refusal: the runs before it were made, and `rets` from there on is as it was. Refused: WRONG_LENGTH
- * where the contexts can't have one size, and what bpf_host_run refuses. */
+/* Runs a program once for each of `rets_len` contexts of one size, which stand one after the other, and writes what each run returns: short runs
+ * take less time so than by a call each. It stops at the first refusal: the runs before it were made, and `rets` from there on is as it was.
+ * Refused: WRONG_LENGTH where the contexts can't have one size, and what bpf_host_run refuses. */
 uint32_t bpf_host_run_many(struct bpf_host *host, uint32_t tenant, uint32_t program, const uint8_t *contexts, size_t contexts_len, uint64_t *rets,
                            size_t rets_len, struct bpf_host_refused *refused);
 
@@ -275,8 +276,9 @@ uint32_t bpf_host_read_object(const uint8_t *file, size_t file_len, const char *
 
 /* Makes the maps of an object that was read, by number and with their first values, and loads its program, for a tenant that has no map, since a
  * text names maps by number. A further program of the same file is loaded by bpf_host_load, from the text that is read under its name: its maps
- * have the same numbers. Where that is refused, the tenant's maps are dropped. Refused: CLOSED, WRONG_LENGTH where a length is more than its array
- * has, HAS_MAPS, and what bpf_host_create_map, bpf_host_update and bpf_host_load refuse. */
+ * have the same numbers. Where that is refused, the tenant's maps are dropped, but for one that a loaded program of the tenant names. Refused:
+ * CLOSED, WRONG_LENGTH where a length is more than its array has, HAS_MAPS, and what bpf_host_create_map, bpf_host_update and bpf_host_load
+ * refuse. */
 uint32_t bpf_host_load_object(struct bpf_host *host, uint32_t tenant, const struct bpf_host_object *object, bool mergeable, uint32_t *program,
                               struct bpf_host_refused *refused);
 

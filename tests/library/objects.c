@@ -103,6 +103,26 @@ static void test_merged_objects(void)
     }
 }
 
+/* Of a map whose number a loaded program names, reached or not, the drop is refused: so it stays where the object's program is refused. */
+static void test_named_map(void)
+{
+    static const uint8_t names_map_0[] = {0xb7, 0, 0, 0, 1, 0, 0, 0, 0x95, 0, 0, 0, 0, 0, 0, 0, 0x18, 0x11, 0, 0, 0, 0, 0, 0,
+        0, 0, 0, 0, 0, 0, 0, 0, 0x95, 0, 0, 0, 0, 0, 0, 0};
+    struct bpf_host host = {0};
+    struct bpf_host_refused refused = {0, 0, 0};
+    struct bpf_host_shape shape;
+    uint32_t program = 99;
+    open_host(&host, 8, 1);
+    CHECK(bpf_host_load(&host, 0, names_map_0, sizeof names_map_0, 0, &program, &refused), 0);
+    CHECK(read_object(read_file("crates/bpf_object/data/globals.o"), "", 0), 0);
+    object.context_size = 7;
+    CHECK(bpf_host_load_object(&host, 0, &object, true, &program, &refused), BPF_HOST_BAD_CONTEXT);
+    CHECK(program, 0);
+    CHECK(bpf_host_shape(&host, 0, 0, &shape), 0);
+    CHECK(bpf_host_shape(&host, 0, 1, &shape), BPF_HOST_NO_MAP);
+    bpf_host_free(&host);
+}
+
 /* A step that is refused leaves no map: for want of frames, of a text that isn't taken, or of right lengths. */
 static void test_refused_objects(void)
 {
@@ -141,4 +161,5 @@ void test_objects(void)
     test_loaded_objects();
     test_merged_objects();
     test_refused_objects();
+    test_named_map();
 }

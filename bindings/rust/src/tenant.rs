@@ -121,8 +121,9 @@ impl<'h> Tenant<'h> {
 }
 
 impl<'h> Tenant<'h> {
-    /// Makes the maps of an object file and loads its program, for a tenant that has no map, since the text names maps by number. What is
-    /// refused leaves no map. `map` finds the maps afterwards; `load` loads further programs of the same file.
+    /// Makes the maps of an object file and loads its program, for a tenant that has no map, since the text names maps by number. Where that is
+    /// refused, the maps are dropped, but for one that a loaded program of the tenant names. `map` finds the maps afterwards; `load` loads further
+    /// programs of the same file.
     pub fn load_object(&self, object: &Object, mergeable: bool) -> Result<Program<'h>, Refused> {
         if (0..8).any(|number| self.map(number).is_ok()) {
             return Err(Refused::has_maps());
@@ -131,7 +132,7 @@ impl<'h> Tenant<'h> {
         let loaded = self.make_and_load(object, mergeable, &mut made);
         if loaded.is_err() {
             for map in made {
-                // No program names it, and no run is open.
+                // One stays that a program names which was loaded before; no run is open.
                 let _ = map.remove();
             }
         }
