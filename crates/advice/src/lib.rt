@@ -20,7 +20,7 @@ use host_types::Refused;
 pub use loops::loop_closed;
 
 /// What a refusal says.
-#[derive(Clone, Copy, Debug, PartialEq, Eq)]
+#[derive(Clone, Copy, PartialEq, Eq)]
 pub struct Advice {
     /// What is wrong, without a full stop.
     pub wrong: &'static str,

@@ -4,7 +4,7 @@ use host_types::rule::{BAD_FIELD, BAD_REGISTER, UNKNOWN_OPCODE};
 
 /// An instruction's fields (RFC 9669, sections 3.1 and 3.2). `next_imm` is the second immediate of
 /// a wide instruction, and 0 in a basic one.
-#[derive(Clone, Copy, Debug, PartialEq, Eq)]
+#[derive(Clone, Copy, PartialEq, Eq)]
 pub struct Insn {
     pub opcode: u8,
     pub dst: u8,

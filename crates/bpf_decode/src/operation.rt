@@ -1,14 +1,14 @@
 use crate::insn::Insn;
 
 /// Where the second operand of arithmetic or of a store comes from (RFC 9669, sections 4.1 and 5.1).
-#[derive(Clone, Copy, Debug, PartialEq, Eq)]
+#[derive(Clone, Copy, PartialEq, Eq)]
 pub enum Source {
     Immediate,
     Register,
 }
 
 /// How many bits arithmetic computes with, by its class (RFC 9669, section 4.1).
-#[derive(Clone, Copy, Debug, PartialEq, Eq)]
+#[derive(Clone, Copy, PartialEq, Eq)]
 pub enum Width {
     /// The low 32 bits; the upper half of dst becomes zero.
     Bits32,
@@ -16,7 +16,7 @@ pub enum Width {
 }
 
 /// How many bytes a load or store takes (RFC 9669, section 5).
-#[derive(Clone, Copy, Debug, PartialEq, Eq)]
+#[derive(Clone, Copy, PartialEq, Eq)]
 pub enum Size {
     Byte,
     HalfWord,
@@ -25,7 +25,7 @@ pub enum Size {
 }
 
 /// What becomes of the bits above those that are loaded (RFC 9669, sections 5.1 and 5.2).
-#[derive(Clone, Copy, Debug, PartialEq, Eq)]
+#[derive(Clone, Copy, PartialEq, Eq)]
 pub enum Extension {
     Zero,
     Sign,
@@ -34,7 +34,7 @@ pub enum Extension {
 /// What an arithmetic instruction computes (RFC 9669, sections 4.1 and 4.2). The field `offset`
 /// gives `Div` and `Mod` of their signed forms, and `Mov` of the move with sign extension. The
 /// byte swaps have their width in `imm`, which is their second operand.
-#[derive(Clone, Copy, Debug, PartialEq, Eq)]
+#[derive(Clone, Copy, PartialEq, Eq)]
 pub enum AluCode {
     Add,
     Sub,
@@ -55,14 +55,14 @@ pub enum AluCode {
 }
 
 /// Where a jump that is always taken has its distance (RFC 9669, section 4.3).
-#[derive(Clone, Copy, Debug, PartialEq, Eq)]
+#[derive(Clone, Copy, PartialEq, Eq)]
 pub enum Distance {
     Offset,
     Imm,
 }
 
 /// What a conditional jump asks of dst and of the second operand (RFC 9669, section 4.3).
-#[derive(Clone, Copy, Debug, PartialEq, Eq)]
+#[derive(Clone, Copy, PartialEq, Eq)]
 pub enum Comparison {
     Equal,
     NotEqual,
@@ -79,7 +79,7 @@ pub enum Comparison {
 }
 
 /// What an opcode says.
-#[derive(Clone, Copy, Debug, PartialEq, Eq)]
+#[derive(Clone, Copy, PartialEq, Eq)]
 pub enum Operation {
     /// Arithmetic (RFC 9669, sections 4.1 and 4.2).
     Alu {

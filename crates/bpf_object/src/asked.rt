@@ -11,7 +11,7 @@ use terminal_text::quoted;
 const NAME: &str = "bpf_object";
 
 /// What words ask for.
-#[derive(Debug, Drop)]
+#[derive(Drop)]
 pub struct Asked<'a> {
     pub path: &'a str,
     pub section: Option<&'a str>,
@@ -23,7 +23,7 @@ pub struct Asked<'a> {
 }
 
 /// What is printed of a program.
-#[derive(Debug, Drop)]
+#[derive(Drop)]
 pub enum Form {
     /// Events of a host file.
     Events,

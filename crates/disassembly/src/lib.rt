@@ -17,7 +17,7 @@ use std::fmt;
 /// An instruction that is shown as text: `r0 = 42`, `*(u32 *)(r10 - 4) = r1`, `if r1 == 0 goto +1`. A
 /// distance counts slots from the next instruction. Of an opcode that isn't known just its number is
 /// shown.
-#[derive(Clone, Copy, Debug)]
+#[derive(Clone, Copy)]
 pub struct Assembly(pub Insn);
 
 impl fmt::Display for Assembly {
@@ -28,7 +28,7 @@ impl fmt::Display for Assembly {
 
 /// An instruction at a slot of a text. A jump is shown with the slot to which it leads, `if r1 == 0 goto 7`, and
 /// a call with the name of its helper; else it is shown as `Assembly` does.
-#[derive(Clone, Copy, Debug)]
+#[derive(Clone, Copy)]
 pub struct AssemblyAt {
     pub insn: Insn,
     pub slot: u32,

@@ -71,7 +71,7 @@ fn explain_refused_text<W: Write>(
 }
 
 /// What a refused event is verified by.
-#[derive(Clone, Copy, Debug)]
+#[derive(Clone, Copy)]
 pub struct Known<'a> {
     /// The shapes by number of the maps that a program may use which the event loads.
     pub shapes: &'a [Option<Shape>],

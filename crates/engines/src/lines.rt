@@ -19,7 +19,7 @@ use std::fmt;
 use std::io::Write;
 
 /// The front of a line that speaks of a tenant, where one is named.
-#[derive(Clone, Copy, Debug)]
+#[derive(Clone, Copy)]
 struct Front(Option<u32>);
 
 impl fmt::Display for Front {

@@ -8,7 +8,7 @@ pub trait Watch {
 }
 
 /// Nobody waits.
-#[derive(Clone, Copy, Debug, Drop)]
+#[derive(Clone, Copy, Drop)]
 pub struct Unwatched;
 
 impl Watch for Unwatched {

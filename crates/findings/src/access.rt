@@ -2,7 +2,7 @@ use crate::site::Site;
 use bpf_decode::{Insn, Operation};
 
 /// Bytes of memory that an instruction reads or writes by way of a register.
-#[derive(Clone, Copy, Debug)]
+#[derive(Clone, Copy)]
 pub struct Access {
     pub bytes: u32,
     /// How far after the register's address they begin.

@@ -14,7 +14,7 @@ pub const CLEAR: [u8; 8] = [0xb7, 0, 0, 0, 0, 0, 0, 0];
 const EXIT: [u8; 8] = [0x95, 0, 0, 0, 0, 0, 0, 0];
 
 /// A refused text, of which all that stands before the refused slot breaks no rule.
-#[derive(Clone, Copy, Debug)]
+#[derive(Clone, Copy)]
 pub struct Cut<'a> {
     pub alloc: Global,
     pub checked: CheckedText<'a>,

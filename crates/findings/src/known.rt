@@ -3,7 +3,7 @@ use std::fmt;
 use verifier_kinds::{Align, Kind, Offsets, Range};
 
 /// What is known of a register.
-#[derive(Clone, Copy, Debug)]
+#[derive(Clone, Copy)]
 pub struct Known {
     pub register: u8,
     pub kind: Option<Kind>,
@@ -60,7 +60,7 @@ impl fmt::Display for Numbers {
 }
 
 /// Which numbers alone are meant, after a word for that; nothing where all are.
-#[derive(Clone, Copy, Debug)]
+#[derive(Clone, Copy)]
 pub struct Multiple(pub &'static str, pub Align);
 
 impl fmt::Display for Multiple {
@@ -74,7 +74,7 @@ impl fmt::Display for Multiple {
 }
 
 /// How far an address moved: ` + 8`, ` - 4`, or nothing.
-#[derive(Clone, Copy, Debug)]
+#[derive(Clone, Copy)]
 pub struct Moved(pub i64);
 
 impl fmt::Display for Moved {

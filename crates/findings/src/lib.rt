@@ -28,7 +28,7 @@ use std::io::Write;
 use unset::write_unset_bytes;
 
 /// What a text was verified for: maps of these shapes, by number, each there or not, and a context of so many bytes.
-#[derive(Clone, Copy, Debug)]
+#[derive(Clone, Copy)]
 pub struct CheckedText<'a> {
     pub text: &'a [u8],
     pub shapes: &'a [Option<Shape>],

@@ -10,7 +10,7 @@ use verifier_kinds::{Kind, OFFSET_BIAS, Offsets, Range};
 const STACK: i64 = STACK_SIZE as i64;
 
 /// What may stand in a register of the refused instruction.
-#[derive(Clone, Copy, Debug)]
+#[derive(Clone, Copy)]
 pub enum Limit {
     /// The access begins at these offsets from the beginning of its memory, or from R10, and may begin up to `most`. The
     /// least is named where the access may begin below it.

@@ -5,7 +5,7 @@ use verifier::Verified;
 use verifier_kinds::Kind;
 
 /// What is known of each register.
-#[derive(Clone, Copy, Debug)]
+#[derive(Clone, Copy)]
 pub struct Kinds(pub [Option<Kind>; 11]);
 
 impl Kinds {
@@ -25,7 +25,7 @@ impl Kinds {
 }
 
 /// The slot of a refusal, what stands there, and what was known there.
-#[derive(Clone, Copy, Debug)]
+#[derive(Clone, Copy)]
 pub struct Site<'a> {
     pub checked: CheckedText<'a>,
     pub refused: Refused,

@@ -1,7 +1,7 @@
 use host_types::{Bytes, Fault, MapNo, Visited};
 
 /// What a host answers to an event.
-#[derive(Debug, PartialEq, Eq, Drop)]
+#[derive(PartialEq, Eq, Drop)]
 pub enum Reply {
     /// The map was made under this number.
     Map(MapNo),

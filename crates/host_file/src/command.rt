@@ -4,7 +4,7 @@ use host_types::{Bytes, Event};
 use std::marker::Model;
 
 /// What an event of a host file asks for.
-#[derive(Debug, Drop)]
+#[derive(Drop)]
 pub enum Command {
     /// Applies an event of the host as it is.
     Apply(Event),
@@ -30,7 +30,7 @@ pub enum Command {
 }
 
 /// The commands of a host file in their order.
-#[derive(Debug, Drop)]
+#[derive(Drop)]
 pub struct Commands {
     items: Vec<Command>,
 }

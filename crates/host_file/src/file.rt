@@ -16,7 +16,7 @@ use toml::Value;
 use toml::value::Array;
 
 /// What a host file says.
-#[derive(Debug, Drop)]
+#[derive(Drop)]
 pub struct HostFile {
     pub tenants: u32,
     pub frames: u32,

@@ -1,7 +1,7 @@
 //! Where the table of an event begins in a host file.
 
 /// What a byte of a line of TOML belongs to.
-#[derive(Clone, Copy, Debug, PartialEq, Eq)]
+#[derive(Clone, Copy, PartialEq, Eq)]
 enum State {
     Code,
     /// A string in double quotes, and there the character after a backslash.

@@ -3,7 +3,7 @@ use crate::options::Opt;
 use crate::shape::MapNo;
 
 /// One thing that happens to a host.
-#[derive(Debug, Drop)]
+#[derive(Drop)]
 pub enum Event {
     /// Makes a map of zeros for a tenant, whose pages may be merged or not.
     CreateMap {

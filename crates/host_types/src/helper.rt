@@ -1,5 +1,5 @@
 /// The helpers on the elements of maps.
-#[derive(Clone, Copy, Debug, PartialEq, Eq)]
+#[derive(Clone, Copy, PartialEq, Eq)]
 pub enum MapHelper {
     Lookup,
     Update,

@@ -1,5 +1,5 @@
 /// How pages are merged. The names are those of the files of Linux's KSM.
-#[derive(Clone, Copy, Debug, PartialEq, Eq)]
+#[derive(Clone, Copy, PartialEq, Eq)]
 pub struct Options {
     /// How many pages a batch visits: 1 to 100000.
     pub pages_to_scan: u32,
@@ -12,7 +12,7 @@ pub struct Options {
 }
 
 /// One of the options.
-#[derive(Clone, Copy, Debug, PartialEq, Eq)]
+#[derive(Clone, Copy, PartialEq, Eq)]
 pub enum Opt {
     PagesToScan,
     Run,

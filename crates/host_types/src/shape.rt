@@ -11,7 +11,7 @@ pub struct Shape {
 }
 
 /// A page of a tenant's map, by its number in the map. A page has 4096 bytes.
-#[derive(Clone, Copy, Debug, PartialEq, Eq)]
+#[derive(Clone, Copy, PartialEq, Eq)]
 pub struct Page {
     pub tenant: u32,
     pub map: MapNo,

@@ -1,5 +1,5 @@
 /// How far merging has come with a page.
-#[derive(Clone, Copy, Debug, PartialEq, Eq)]
+#[derive(Clone, Copy, PartialEq, Eq)]
 pub enum Status {
     /// It was never visited.
     New,

@@ -9,7 +9,7 @@ use crate::stop::NotInlined;
 use std::alloc::Global;
 
 /// A slot of a function, by its number.
-#[derive(Clone, Copy, Debug, PartialEq, Eq)]
+#[derive(Clone, Copy, PartialEq, Eq)]
 pub struct Origin {
     pub function: usize,
     pub slot: usize,

@@ -2,7 +2,7 @@ use bpf_decode::Size;
 use host_types::MapNo;
 
 /// What a run needs after a step.
-#[derive(Clone, Copy, Debug, PartialEq, Eq)]
+#[derive(Clone, Copy, PartialEq, Eq)]
 pub enum Need {
     /// Nothing: the step was made in the run's own registers, stack and context.
     Private,

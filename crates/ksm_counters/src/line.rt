@@ -9,7 +9,7 @@ use std::io;
 use std::io::{ErrorKind, Write};
 
 /// A counter with its name.
-#[derive(Clone, Copy, Debug)]
+#[derive(Clone, Copy)]
 pub(crate) struct Line {
     pub name: &'static str,
     pub value: u64,

@@ -6,7 +6,7 @@ use verifier::Target;
 use verifier_kinds::Description;
 
 /// Where one slot leads to another.
-#[derive(Clone, Copy, Debug, PartialEq, Eq, PartialOrd, Ord)]
+#[derive(Clone, Copy, PartialEq, Eq, PartialOrd, Ord)]
 struct Lead {
     to: u32,
     from: u32,

@@ -11,7 +11,7 @@ use verifier_kinds::{Description, Kind, StackSlot};
 pub const STACK_SLOTS: u32 = 64;
 
 /// A register, or eight bytes of the stack, the lowest address first.
-#[derive(Clone, Copy, Debug, PartialEq, Eq)]
+#[derive(Clone, Copy, PartialEq, Eq)]
 pub enum Location {
     Register(u8),
     Stack(u32),
@@ -27,7 +27,7 @@ impl fmt::Display for Location {
 }
 
 /// What is known of a location.
-#[derive(Clone, Copy, Debug, PartialEq, Eq)]
+#[derive(Clone, Copy, PartialEq, Eq)]
 pub enum Fact {
     Register(Option<Kind>),
     Stack(StackSlot),
@@ -80,7 +80,7 @@ impl fmt::Display for Fact {
 }
 
 /// A location of which edges that join say two things, the first two, and how many further edges say others.
-#[derive(Clone, Copy, Debug)]
+#[derive(Clone, Copy)]
 pub struct Differing {
     pub location: Location,
     /// What the first path says, and from which slot it comes.

@@ -2,14 +2,14 @@ use std::io;
 use std::io::Write;
 
 /// Whether parts of a line have colours, as on a terminal.
-#[derive(Clone, Copy, Debug, PartialEq, Eq)]
+#[derive(Clone, Copy, PartialEq, Eq)]
 pub enum Paint {
     Plain,
     Colours,
 }
 
 /// What a part of a line is.
-#[derive(Clone, Copy, Debug, PartialEq, Eq)]
+#[derive(Clone, Copy, PartialEq, Eq)]
 pub enum Part {
     /// A slot's number and bytes, or that it isn't reached.
     Beside,

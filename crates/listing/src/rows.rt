@@ -8,7 +8,7 @@ use std::alloc::{AllocError, Global};
 use std::fmt;
 
 /// A row of a listing.
-#[derive(Clone, Copy, Debug, PartialEq, Eq)]
+#[derive(Clone, Copy, PartialEq, Eq)]
 pub enum Row {
     /// A slot at which an instruction begins.
     Instruction(u32),
@@ -31,7 +31,7 @@ impl Row {
 }
 
 /// What a slot is in a listing.
-#[derive(Clone, Copy, Debug, PartialEq, Eq)]
+#[derive(Clone, Copy, PartialEq, Eq)]
 pub(crate) enum Slot {
     /// An instruction begins there.
     First,
@@ -95,7 +95,7 @@ fn fold_end(slots: &[Slot], first: u32) -> u32
 }
 
 /// What is shown at an instruction: what is known before it runs.
-#[derive(Clone, Copy, Debug)]
+#[derive(Clone, Copy)]
 pub enum Item {
     /// No path leads there.
     NotReached,

@@ -9,7 +9,7 @@ use verifier_kinds::Kind;
 const STACK: i64 = STACK_SIZE as i64;
 
 /// Slots of the stack, eight bytes each, the lowest address first.
-#[derive(Clone, Copy, Debug)]
+#[derive(Clone, Copy)]
 pub struct Seen {
     pub first: u32,
     /// The slot after the last one.

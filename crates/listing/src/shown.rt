@@ -18,7 +18,7 @@ use verifier::Verified;
 use verifier_kinds::Kind;
 
 /// How much is shown of what is known at a slot.
-#[derive(Clone, Copy, Debug, PartialEq, Eq)]
+#[derive(Clone, Copy, PartialEq, Eq)]
 pub enum Detail {
     /// What the instruction reads, and the frames that it may take.
     Read,
@@ -27,7 +27,7 @@ pub enum Detail {
 }
 
 /// What is shown of a lowered text beside its slots.
-#[derive(Clone, Copy, Debug)]
+#[derive(Clone, Copy)]
 pub struct Beside<'a> {
     /// The slot of the original for which each slot stands.
     pub origins: &'a [u16],
@@ -36,7 +36,7 @@ pub struct Beside<'a> {
 }
 
 /// The lines of sources of which a text was made, in words, and of each slot the number of its line.
-#[derive(Clone, Copy, Debug)]
+#[derive(Clone, Copy)]
 pub struct Sources<'a> {
     pub lines: &'a [String],
     pub of_slots: &'a [Option<u32>],

@@ -12,7 +12,7 @@ use std::io;
 use std::io::Write;
 
 /// How a listing is written as text.
-#[derive(Clone, Copy, Debug)]
+#[derive(Clone, Copy)]
 pub struct Text {
     pub detail: Detail,
     pub paint: Paint,

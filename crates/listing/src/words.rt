@@ -5,7 +5,7 @@ use std::fmt;
 use verifier_kinds::{Kind, Range, StackSlot};
 
 /// A kind: `0..56 /8`, `context + 8`, `fp - 4`, `map 0 value + 0..56 /8`, `lookup at 4, may be 0`, `map 0`.
-#[derive(Clone, Copy, Debug)]
+#[derive(Clone, Copy)]
 pub struct Few(pub Kind);
 
 impl fmt::Display for Few {
@@ -32,7 +32,7 @@ impl fmt::Display for Few {
 
 /// What is known of eight bytes of the stack: the kind of their double word, or which of them are set, as `8 bytes
 /// set`, `bytes 0..3 set` or `bytes 0 2 set`.
-#[derive(Clone, Copy, Debug)]
+#[derive(Clone, Copy)]
 pub struct StackFew(pub StackSlot);
 
 impl fmt::Display for StackFew {

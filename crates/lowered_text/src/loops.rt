@@ -5,7 +5,7 @@ use lowering::Lowered;
 use std::alloc::{AllocError, Global};
 
 /// A loop of a text: the slot to which its jump back leads, and that of the jump.
-#[derive(Clone, Copy, Debug, PartialEq, Eq)]
+#[derive(Clone, Copy, PartialEq, Eq)]
 pub struct Loop {
     pub first: u32,
     pub last: u32,

@@ -8,7 +8,7 @@ use host_types::rule::{FALLS_OFF, JUMP_OUT};
 use std::alloc::{AllocError, Global};
 
 /// A basic block: instructions that run one after another, the last of which alone may jump.
-#[derive(Clone, Copy, Debug)]
+#[derive(Clone, Copy)]
 pub(crate) struct Block {
     /// The slot of its first instruction.
     pub first: u16,
@@ -36,7 +36,7 @@ pub(crate) struct Blocks {
 }
 
 /// The slots to which an instruction leads.
-#[derive(Clone, Copy, Debug)]
+#[derive(Clone, Copy)]
 struct Edges {
     after: u16,
     next: Option<u16>,

@@ -6,7 +6,7 @@ use crate::stop::Stop;
 use std::alloc::Global;
 
 /// A position in an order of blocks.
-#[derive(Clone, Copy, Debug)]
+#[derive(Clone, Copy)]
 pub(crate) enum Position {
     /// Where the block at a slot stands.
     Block(u16),

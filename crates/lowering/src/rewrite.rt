@@ -30,7 +30,7 @@ pub struct Lowered {
 }
 
 /// Why a text isn't lowered: its own refusal, and what stopped the lowering.
-#[derive(Clone, Copy, Debug, PartialEq, Eq)]
+#[derive(Clone, Copy, PartialEq, Eq)]
 pub struct NotLowered {
     pub refused: Refused,
     pub stop: Stop,

@@ -8,7 +8,7 @@ use std::alloc::{AllocError, Global};
 const MOST_ADDED: u32 = 16_384;
 
 /// An item of a row.
-#[derive(Clone, Copy, Debug)]
+#[derive(Clone, Copy)]
 pub(crate) enum Item {
     /// A copy of the block at a slot, with the items to which it falls through and jumps, by their indices.
     Block {
@@ -24,7 +24,7 @@ pub(crate) enum Item {
 }
 
 /// Whether a block of a copy falls through or jumps.
-#[derive(Clone, Copy, Debug, PartialEq, Eq)]
+#[derive(Clone, Copy, PartialEq, Eq)]
 pub(crate) enum Edge {
     Next,
     Jump,

@@ -2,7 +2,7 @@ use host_types::Refused;
 use std::alloc::{AllocError, AllocFailed};
 
 /// What stops a lowering.
-#[derive(Clone, Copy, Debug, PartialEq, Eq)]
+#[derive(Clone, Copy, PartialEq, Eq)]
 pub enum Stop {
     /// An instruction breaks a rule in one of its copies, of which 1 is the first; the slot is that of the text.
     Rule {

@@ -15,7 +15,7 @@ const MOST_OF_EVENT: u32 = 256;
 const MOST_OF_ANSWER: usize = 96;
 
 /// What is known after a step: an event, or some visits of one.
-#[derive(Debug, Drop)]
+#[derive(Drop)]
 pub struct Point {
     /// The number of the event in the file; none at the beginning.
     pub event: Option<usize>,
@@ -27,7 +27,7 @@ pub struct Point {
 }
 
 /// The counters over the events of a host file, from the beginning on.
-#[derive(Debug, Drop)]
+#[derive(Drop)]
 pub struct History {
     pub points: Vec<Point>,
     /// How many steps were made, the beginning among them, and of how many one has a point.

@@ -3,7 +3,7 @@
 use ksm_counters::Counters;
 
 /// A line of the picture.
-#[derive(Clone, Copy, Debug)]
+#[derive(Clone, Copy)]
 pub enum Line {
     FramesFree,
     Shared,

@@ -6,7 +6,7 @@ use std::alloc::{AllocError, Global};
 pub const MOST: usize = 4096;
 
 /// Each element whose number a power of 2 divides, and the last one.
-#[derive(Debug, Drop)]
+#[derive(Drop)]
 pub struct Thinned<T> {
     alloc: Global,
     kept: Vec<T>,

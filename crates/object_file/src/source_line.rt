@@ -8,7 +8,7 @@ use terminal_text::is_plain;
 const MOST: usize = 80;
 
 /// A line of a source: the path of its file, its text, and its number from 1 on.
-#[derive(Clone, Copy, Debug, PartialEq, Eq)]
+#[derive(Clone, Copy, PartialEq, Eq)]
 pub struct SourceLine<'a> {
     pub file: &'a [u8],
     pub text: &'a [u8],

@@ -5,7 +5,7 @@ ghost use Rattle.page_table.specs.Table.{state_of};
 use host_types::Status;
 
 /// What is kept of a page.
-#[derive(Clone, Copy, Debug, PartialEq, Eq)]
+#[derive(Clone, Copy, PartialEq, Eq)]
 pub struct Entry {
     /// The frame that the page lies on.
     pub frame: u32,

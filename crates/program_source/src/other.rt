@@ -6,7 +6,7 @@ use std::fmt;
 const MOST: usize = 1 << 20;
 
 /// What a file is that is neither hex text nor the bytes of a program that may be accepted.
-#[derive(Clone, Copy, Debug, PartialEq, Eq)]
+#[derive(Clone, Copy, PartialEq, Eq)]
 pub enum Other {
     /// It has more bytes than hex text of the longest program, with spaces between its digits.
     Long,

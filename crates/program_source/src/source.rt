@@ -12,7 +12,7 @@ use terminal_text::quoted;
 const MOST_READ: u64 = (1 << 24) + 1;
 
 /// What a word names.
-#[derive(Debug, Drop)]
+#[derive(Drop)]
 pub enum Source {
     /// The program of a hex text.
     Hex(String),

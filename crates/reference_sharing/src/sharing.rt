@@ -19,7 +19,7 @@ use std::marker::Model;
 const UNMERGED: u32 = 2;
 
 /// What is kept of a page.
-#[derive(Clone, Copy, Debug, PartialEq, Eq)]
+#[derive(Clone, Copy, PartialEq, Eq)]
 pub struct PlainPage {
     pub mergeable: bool,
     pub status: Status,

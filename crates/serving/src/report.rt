@@ -19,7 +19,7 @@ use std::alloc::{AllocError, Global};
 use std::io::Write;
 
 /// Where memory comes from for words, and whether a refusal was written.
-#[derive(Clone, Copy, Debug)]
+#[derive(Clone, Copy)]
 pub(crate) struct Report {
     pub(crate) alloc: Global,
     pub(crate) has_refused: bool,

@@ -174,7 +174,7 @@ pub(crate) fn put(store: &mut Store, arena: &mut Counted, frame: u32) -> u32
 }
 
 /// Where a group stands among those of its content.
-#[derive(Clone, Copy, Debug, PartialEq, Eq)]
+#[derive(Clone, Copy, PartialEq, Eq)]
 struct Standing {
     pub slot: u32,
     /// How many groups stand after it.

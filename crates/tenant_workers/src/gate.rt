@@ -16,7 +16,7 @@ pub trait Gate {
 }
 
 /// What the threads of a plan have passed.
-#[derive(Clone, Copy, Debug)]
+#[derive(Clone, Copy)]
 pub enum Passed {
     /// Nothing yet: they are to make so many runs and visits.
     Start { runs: u64, visits: u32 },

@@ -13,7 +13,7 @@ pub mod search;
 pub const NONE: u32 = u32::MAX;
 
 /// A node of the tree, by the slots of what hangs at it.
-#[derive(Clone, Copy, Debug, PartialEq, Eq)]
+#[derive(Clone, Copy, PartialEq, Eq)]
 pub struct Node {
     pub left: u32,
     pub right: u32,

@@ -11,7 +11,7 @@ use frame_arena::Counted;
 use std::cmp::Ordering;
 
 /// A tree without its first slot.
-#[derive(Clone, Copy, Debug, PartialEq, Eq)]
+#[derive(Clone, Copy, PartialEq, Eq)]
 struct Popped {
     /// The slot that was first.
     pub first: u32,
@@ -20,7 +20,7 @@ struct Popped {
 }
 
 /// A tree without a content that was taken out.
-#[derive(Clone, Copy, Debug, PartialEq, Eq)]
+#[derive(Clone, Copy, PartialEq, Eq)]
 pub struct Taken {
     /// The slot that was taken out.
     pub slot: u32,
@@ -61,7 +61,7 @@ fn merge(nodes: &mut [Node], left: u32, right: u32) -> u32
 }
 
 /// What came of taking out a frame.
-#[derive(Clone, Copy, Debug, PartialEq, Eq)]
+#[derive(Clone, Copy, PartialEq, Eq)]
 pub enum Removed {
     /// No slot has its content, and nothing changed.
     Nowhere,

@@ -9,7 +9,7 @@ use frame_arena::Counted;
 use std::cmp::Ordering;
 
 /// What came of putting in a content.
-#[derive(Clone, Copy, Debug, PartialEq, Eq)]
+#[derive(Clone, Copy, PartialEq, Eq)]
 pub enum Entered {
     /// An equal content is at this slot, and nothing changed.
     There(u32),

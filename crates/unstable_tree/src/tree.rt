@@ -8,7 +8,7 @@ use std::marker::Model;
 
 /// A page that waits: its index among all pages, the frame that it lies on, and the fingerprint that
 /// it had when it was inserted.
-#[derive(Clone, Copy, Debug, PartialEq, Eq)]
+#[derive(Clone, Copy, PartialEq, Eq)]
 pub struct Waiter {
     pub page_index: usize,
     pub frame: u32,

@@ -5,7 +5,7 @@ ghost use Rattle.verifier_kinds.specs.Descriptions.{IsDescriptionBelow, IsSlotBe
 use crate::kind::Kind;
 
 /// What is known of eight aligned bytes of the stack.
-#[derive(Clone, Copy, Debug, PartialEq, Eq)]
+#[derive(Clone, Copy, PartialEq, Eq)]
 pub enum StackSlot {
     /// All eight bytes are written, and their number is of this kind.
     Kept(Kind),
@@ -56,7 +56,7 @@ impl StackSlot {
 
 /// What is known at a slot of a program: a kind for each register, `None` where nothing is known,
 /// and the 64 slots of the stack, the lowest address first.
-#[derive(Clone, Copy, Debug, PartialEq, Eq)]
+#[derive(Clone, Copy, PartialEq, Eq)]
 pub struct Description {
     pub registers: [Option<Kind>; 11],
     pub stack: [StackSlot; 64],

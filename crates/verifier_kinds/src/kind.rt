@@ -1,5 +1,5 @@
 /// A power of 2 that is known to divide a number.
-#[derive(Clone, Copy, Debug, PartialEq, Eq)]
+#[derive(Clone, Copy, PartialEq, Eq)]
 pub enum Align {
     One,
     Two,
@@ -95,7 +95,7 @@ impl Align {
 }
 
 /// The numbers from `low` to `high` that `align` divides.
-#[derive(Clone, Copy, Debug, PartialEq, Eq)]
+#[derive(Clone, Copy, PartialEq, Eq)]
 pub struct Range {
     pub low: u64,
     pub high: u64,
@@ -192,7 +192,7 @@ pub const GREATEST_OFFSET: u32 = 131072;
 
 /// The offsets from `low` to `high`, from the beginning of a map's element, that `align` divides. Each
 /// is `OFFSET_BIAS` more than it is.
-#[derive(Clone, Copy, Debug, PartialEq, Eq)]
+#[derive(Clone, Copy, PartialEq, Eq)]
 pub struct Offsets {
     pub low: u32,
     pub high: u32,
@@ -255,7 +255,7 @@ impl Offsets {
 
 /// What is known of a value that is set. Of a value of which nothing is known there is no kind:
 /// the verifier writes `None`.
-#[derive(Clone, Copy, Debug, PartialEq, Eq)]
+#[derive(Clone, Copy, PartialEq, Eq)]
 pub enum Kind {
     /// A number within a range.
     Scalar(Range),

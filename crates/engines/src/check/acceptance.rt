@@ -10,7 +10,7 @@ use std::fmt;
 use verifier::Verified;
 
 /// What is printed of a program that is accepted.
-#[derive(Clone, Copy, Debug)]
+#[derive(Clone, Copy)]
 pub struct Acceptance {
     slots: u32,
     instructions: u32,

@@ -15,7 +15,7 @@ use std::alloc::{AllocError, Global};
 use terminal_text::{is_plain, quoted};
 
 /// A program to verify: its text, the shapes of its maps by number, and the bytes of its context.
-#[derive(Debug, Drop)]
+#[derive(Drop)]
 pub struct CheckRequest {
     pub text: Bytes,
     pub shapes: Vec<Option<Shape>>,
