@@ -7,4 +7,4 @@ mod need;
 mod reserve;
 
 pub use need::{needed, needed_within, whole_need};
-pub use reserve::{admit, breaks, lower, release};
+pub use reserve::{admit, breaks, record_left, release};

@@ -40,23 +40,21 @@ pub fn admit(memory: &mut Memory, tenant: u32, need: u32) -> Result<(), Fault>
     Ok(())
 }
 
-/// Lowers what is reserved for a tenant's run to what is left of it, which isn't above what is recorded.
-/// The difference may be had by others at once.
+/// Records what is reserved for the rest of a tenant's run, which is had or reserved already; the difference may be had by others at once.
+/// Most steps have no store ahead of them and leave it as it is: then nothing is written.
 #[inline(always)]
 #[tactic(auto, using(crate::proofs::Records::part_kept, crate::proofs::Records::memory_kept))]
-pub fn lower(memory: &mut Memory, tenant: u32, left: u32)
+pub fn record_left(memory: &mut Memory, tenant: u32, left: u32)
     requires there { length (part memory.old tenant).maps ≡ 8 }
-    requires most { left ≤ (part memory.old tenant).reserve }
+    requires room { left ≤ have_of memory.old + (part memory.old tenant).reserve }
     ensures recorded { part memory.new tenant ≡ with_reserve left (part memory.old tenant) }
     ensures have { have_of memory.new + left ≡ have_of memory.old + (part memory.old tenant).reserve }
     ensures all { memory.new ≡ with_record memory.old tenant left }
     ensures others { OtherTenantsUnchanged tenant memory.old memory.new }
 {
-    // For most runs nothing is reserved: then nothing is written.
-    if memory.reserve(tenant) == left {
-        return;
+    if memory.reserve(tenant) != left {
+        memory.record(tenant, left);
     }
-    memory.record(tenant, left);
 }
 
 /// Ends a tenant's run: nothing is reserved for it any more, and none of the tenant's pages is pinned.

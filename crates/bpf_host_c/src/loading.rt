@@ -15,7 +15,7 @@ use host_types::{Fault, MapNo};
 use std::alloc::Global;
 
 /// Makes the maps of an object that was read, by number and with their first values, and loads its program, for a tenant that has no map. Where
-/// that is refused, the maps are dropped again.
+/// that is refused, the maps that were made are dropped.
 #[unsafe(no_mangle)]
 pub extern "C" fn bpf_host_load_object(
     alloc: Global,

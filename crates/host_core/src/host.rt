@@ -12,7 +12,7 @@ ghost use Rattle.host_types.specs.declared.fault.Fault.TheVariants.{OutOfMemory}
 ghost use Rattle.host_types.specs.declared.event.Event.TheVariants.{CreateMap, Load, Begin, HostUpdate, HostLookup, Unload, DropMap, Visit};
 ghost use Rattle.host_core.specs.declared.reply.Reply.{Reply as KnownReply};
 
-use crate::open_run::{LOOP_OF_MANY, SHARED_LOOP};
+use crate::open_run::LOOP_OF_MANY;
 use crate::reply::Reply;
 use crate::tenant::Tenant;
 use crate::tenant_event::TenantEvent;
@@ -23,6 +23,7 @@ use page_table::Memory;
 use scanner::visit;
 use std::alloc::{AllocError, Global};
 use std::marker::Model;
+use tenant_runs::SHARED_LOOP;
 
 /// Several tenants, each with its own maps, programs and at most one open run, in a memory whose pages are
 /// merged. Contracts see them by number, and say which system of private memories the host stands for.

@@ -2,15 +2,13 @@
 ghost use Rattle.std.specs.Prelude.{◌≡◌, min};
 
 use crate::tenant::OpenRun;
-use admission::{lower, needed, release};
+use admission::{needed, record_left, release};
 use interp::Need;
 use page_table::Memory;
-use tenant_runs::{TenantMaps, answer};
+use tenant_runs::{SHARED_LOOP, TenantMaps, answer};
 use verifier::Verified;
 
-/// The loops over a tenant's maps (`TenantMaps`): one that several callers have, and that of many runs, which has one.
-pub(crate) const SHARED_LOOP: u8 = 0;
-
+/// The loop over a tenant's maps (`TenantMaps`) that many runs in one call have alone.
 pub(crate) const LOOP_OF_MANY: u8 = 1;
 
 impl OpenRun {
@@ -114,7 +112,7 @@ impl OpenRun {
         program.facts();
         memory.facts();
         // All that is reserved for the run may be had while it makes its steps.
-        lower(memory, number, 0);
+        record_left(memory, number, 0);
         memory.facts();
         self.advance_started::<SHARED_LOOP>(program, memory, number, limit)
     }

@@ -8,6 +8,7 @@ mod maps;
 mod memory;
 mod need;
 mod on_maps;
+mod pair;
 mod run;
 mod step;
 

@@ -9,9 +9,9 @@ ghost use Rattle.interp.specs.Runs.{Reaches};
 ghost use Rattle.tenant_runs.specs.Fulfilment.{sharing_fulfilled, KeepsSizes};
 ghost use Rattle.tenant_runs.specs.UnderWay.{IsUnderWay, IsAsking, part_with_have};
 
-use crate::maps::TenantMaps;
+use crate::maps::{SHARED_LOOP, TenantMaps};
 use crate::needs::fulfil;
-use admission::{lower, needed, needed_within};
+use admission::{needed, needed_within, record_left};
 use interp::{Need, Run};
 use page_table::Memory;
 use verifier::Verified;
@@ -68,21 +68,6 @@ pub fn answer_recorded(
     record_left(memory, tenant, left);
 }
 
-/// Records what is reserved for the rest of a run. Many answers leave it as it is: then nothing is written.
-#[inline(always)]
-#[tactic(auto, using(admission::proofs::Records::part_kept, admission::proofs::Records::memory_kept))]
-fn record_left(memory: &mut Memory, tenant: u32, left: u32)
-    requires there { length (part memory.old tenant).maps ≡ 8 }
-    requires room { left ≤ have_of memory.old + (part memory.old tenant).reserve }
-    ensures recorded { part memory.new tenant ≡ with_reserve left (part memory.old tenant) }
-    ensures others { OtherTenantsUnchanged tenant memory.old memory.new }
-    ensures all { memory.new ≡ with_record memory.old tenant left }
-{
-    if memory.reserve(tenant) != left {
-        memory.record(tenant, left);
-    }
-}
-
 /// Does what a tenant's run asks, and gives it the answer. What is recorded for the run after it and what `have()` gives
 /// are together enough for the rest of it: whoever stops there records what that may need. It is part of each caller: one that knows what
 /// is asked goes straight to it.
@@ -121,10 +106,10 @@ pub fn finish(memory: &mut Memory, tenant: u32, program: &Verified, run: &mut Ru
     ensures sizes { KeepsSizes memory.old memory.new }
 {
     program.facts();
-    let maps = TenantMaps::<0> { tenant };
+    let maps = TenantMaps::<SHARED_LOOP> { tenant };
     loop {
         // All that is reserved for the run may be had while it makes its steps.
-        lower(memory, tenant, 0);
+        record_left(memory, tenant, 0);
         match run.advance_on(program, &maps, memory, program.instructions()) {
             Need::Ended(ret) => {
                 return RunReply {

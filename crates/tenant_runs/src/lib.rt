@@ -11,6 +11,6 @@ mod whole_run;
 
 pub use answers::{RunReply, answer, answer_recorded, finish};
 pub use begin::{open_run, reopen_run, reopen_unreserved};
-pub use maps::TenantMaps;
+pub use maps::{SHARED_LOOP, TenantMaps};
 pub use needs::fulfil;
 pub use whole_run::{has_shapes, run};

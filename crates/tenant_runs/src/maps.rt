@@ -11,6 +11,9 @@ use interp::MapMemory;
 use page_table::Memory;
 use write_break::{load, store};
 
+/// The loop over a tenant's maps that several callers have.
+pub const SHARED_LOOP: u8 = 0;
+
 /// The maps of a tenant, in the memory of all. The parameter tells loops apart that run on them, and means nothing else: where one caller
 /// alone has a number, the loop is compiled as part of that caller.
 #[derive(Clone, Copy)]

@@ -21,11 +21,11 @@ module _ (c : After-facts-3) (v : Accepted) (s : MachineState) (under : IsUnderW
   found = (goal.at.After-facts-3 c).In-Some
 
   -- what was reserved may be had
-  start : IsStarted c.in-Some.program c.args.number s c.args.memory.now c.lower.new.memory
-  start = started c.args.programs.now c.args.self.now c.in-Some.program s c.args.number c.args.memory.now c.lower.new.memory (here found v s under) c.facts-2.ensures c.facts-3.ensures c.lower.ensures.recorded c.lower.ensures.have c.lower.ensures.all
+  start : IsStarted c.in-Some.program c.args.number s c.args.memory.now c.record_left.new.memory
+  start = started c.args.programs.now c.args.self.now c.in-Some.program s c.args.number c.args.memory.now c.record_left.new.memory (here found v s under) c.facts-2.ensures c.facts-3.ensures c.record_left.ensures.recorded c.record_left.ensures.have c.record_left.ensures.all
 
-pub lower-requires-clause-there : goal.lower-requires-clause-there
-lower-requires-clause-there c =
+pub record_left-requires-clause-there : goal.record_left-requires-clause-there
+record_left-requires-clause-there c =
     let (v, s, under) = c.requires.under_way in
     rw under.maps under.stands.state.maps.eight
 
@@ -42,8 +42,8 @@ returns-clause-advanced c v s under =
     (c.advance_started.ensures.advanced c.args.programs.now s c.args.memory.now (here (found at v s under) v s under) (start at v s under))
 
 pub returns-clause-others : goal.returns-clause-others
-returns-clause-others c t other = c.advance_started.ensures.others t other ∙ c.lower.ensures.others t other
+returns-clause-others c t other = c.advance_started.ensures.others t other ∙ c.record_left.ensures.others t other
 
 pub returns-clause-sizes : goal.returns-clause-sizes
 returns-clause-sizes c =
-    keeps_twice c.args.memory.now c.lower.new.memory c.advance_started.new.memory (record_keeps c.args.memory.now c.lower.new.memory c.args.number 0 c.lower.ensures.all) c.advance_started.ensures.sizes
+    keeps_twice c.args.memory.now c.record_left.new.memory c.advance_started.new.memory (record_keeps c.args.memory.now c.record_left.new.memory c.args.number 0 c.record_left.ensures.all) c.advance_started.ensures.sizes
