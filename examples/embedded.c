@@ -33,41 +33,34 @@ static void unload(struct bpf_host *host, uint32_t tenant, uint32_t program)
         bpf_host_drop_map(host, tenant, map);
 }
 
-/* Loads an upload for the tenant without maps, and unloads the other one's program, which stays where the upload is refused. */
-static uint32_t replace(struct bpf_host *host, size_t size, uint32_t *tenant, uint32_t *program)
+/* Loads an upload for the spare tenant, and unloads the other one's program, which stays where the upload is refused. */
+static void replace(struct bpf_host *host, size_t size, uint32_t *tenant, uint32_t *program)
 {
-    uint32_t spare = 1 - *tenant, next = 0;
-    uint32_t code = bpf_host_read_object(file, size, "weigh", 5, 64, &object, &refused);
-    if (code == 0)
-        code = bpf_host_load_object(host, spare, &object, false, &next, &refused);
-    if (code == 0) {
+    uint32_t spare = 1 - *tenant, next;
+    if (bpf_host_read_object(file, size, "weigh", 5, 64, &object, &refused)) {
+        printf("%s\n", object.why);
+    } else if (bpf_host_load_object(host, spare, &object, false, &next, &refused) == 0) {
         unload(host, *tenant, *program);
         *tenant = spare, *program = next;
     }
-    return code;
 }
 
 int main(int argc, char **argv)
 {
+    size_t size = argc > 1 ? receive(argv[1]) : 0;
     struct bpf_host host = {0};
     struct bpf_host_options options = BPF_HOST_OPTIONS;
-    struct bpf_host_run run = {0, 0};
-    uint32_t tenant = 0, program = 0, code;
-    size_t size = argc > 1 ? receive(argv[1]) : 0;
-    code = bpf_host_new(64, 2, &options, &host); /* 64 frames of 4 KiB; 2 tenants */
-    if (code == 0)
-        code = bpf_host_read_object(file, size, "weigh", 5, 64, &object, &refused); /* contexts of 64 bytes */
-    if (code == 0)
-        code = bpf_host_load_object(&host, tenant, &object, false, &program, &refused); /* false: don't share equal pages */
-    if (code == 0)
-        code = bpf_host_run(&host, tenant, program, packet, 64, &run, &refused);
-    if (code == 0)
-        printf("%llu\n", (unsigned long long)run.ret);
-    else
+    struct bpf_host_run run;
+    uint32_t tenant = 0, program, code;
+    if ((code = bpf_host_new(64, 2, &options, &host)) ||                                    /* 64 pages of 4 KiB for maps; 2 tenants */
+        (code = bpf_host_read_object(file, size, "weigh", 5, 64, &object, &refused)) ||     /* contexts of 64 bytes */
+        (code = bpf_host_load_object(&host, tenant, &object, false, &program, &refused)) || /* false: equal pages stay apart */
+        (code = bpf_host_run(&host, tenant, program, packet, 64, &run, &refused)))
         printf("%s\n%s\n", bpf_host_code_name(code), object.why);
+    else
+        printf("%llu\n", (unsigned long long)run.ret);
     for (int upload = 2; upload < argc && code == 0; upload++) {
-        if (replace(&host, receive(argv[upload]), &tenant, &program) != 0)
-            printf("%s\n", object.why);
+        replace(&host, receive(argv[upload]), &tenant, &program);
         code = bpf_host_run(&host, tenant, program, packet, 64, &run, &refused);
         printf("%llu\n", (unsigned long long)run.ret);
     }

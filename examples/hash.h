@@ -1,0 +1,86 @@
+/* Hash tables for filters, in array maps: this host has no maps of type hash. A table has keys of 64 bits, a type of values and a power of two of
+ * slots; a key lies in one of eight slots that its hash names, so each call makes at most eight lookups.
+ *
+ *     HASH_TABLE(flows, struct flow, 1024);           the map `flows`, a slot of which has the key, its state and the value
+ *
+ *     struct flow *flow = flows_find(key);            null where the key isn't there
+ *     struct flow *flow = flows_find_or_add(key);     a new value has zeros; null where the eight slots have other keys
+ *     flows_remove(key);
+ *
+ * Include bpf_helpers.h before it. The host sees a slot by bpf_host_lookup, which takes its number: u64 key, u64 state (1 where it is taken), value. */
+#define HASH_PROBES 8
+
+/* Each probe has instructions of its own, since no jump leads back. */
+#ifdef __clang__
+#define HASH_UNROLL _Pragma("unroll")
+#else
+#define HASH_UNROLL _Pragma("GCC unroll 8")
+#endif
+
+enum hash_state { HASH_FREE, HASH_TAKEN, HASH_REMOVED };
+
+/* The multiplier is 2^64 by the golden ratio (Knuth, The Art of Computer Programming, 6.4). */
+static __always_inline u32 hash_of(u64 key)
+{
+    return (key * 0x9e3779b97f4a7c15ull) >> 32;
+}
+
+#define HASH_TABLE(name, value_type, slots) \
+    struct name##_slot { \
+        u64 key; \
+        u64 state; \
+        value_type value; \
+    }; \
+    struct { \
+        __uint(type, BPF_MAP_TYPE_ARRAY); \
+        __type(key, u32); \
+        __type(value, struct name##_slot); \
+        __uint(max_entries, slots); \
+    } name SEC(".maps"); \
+    static __always_inline struct name##_slot *name##_slot_at(u32 number) \
+    { \
+        u32 index = number & ((slots) - 1); \
+        return bpf_map_lookup_elem(&name, &index); \
+    } \
+    static __always_inline struct name##_slot *name##_slot_of(u64 key) \
+    { \
+        HASH_UNROLL \
+        for (u32 probe = 0; probe < HASH_PROBES; probe++) { \
+            struct name##_slot *slot = name##_slot_at(hash_of(key) + probe); \
+            if (!slot || slot->state == HASH_FREE) \
+                return 0; \
+            if (slot->state == HASH_TAKEN && slot->key == key) \
+                return slot; \
+        } \
+        return 0; \
+    } \
+    static __always_inline value_type *name##_find(u64 key) \
+    { \
+        struct name##_slot *slot = name##_slot_of(key); \
+        return slot ? &slot->value : 0; \
+    } \
+    static __always_inline value_type *name##_find_or_add(u64 key) \
+    { \
+        struct name##_slot *slot = name##_slot_of(key); \
+        if (slot) \
+            return &slot->value; \
+        HASH_UNROLL \
+        for (u32 probe = 0; probe < HASH_PROBES; probe++) { \
+            slot = name##_slot_at(hash_of(key) + probe); \
+            if (!slot) \
+                return 0; \
+            if (slot->state != HASH_TAKEN) { \
+                slot->key = key; \
+                slot->state = HASH_TAKEN; \
+                slot->value = (value_type){0}; \
+                return &slot->value; \
+            } \
+        } \
+        return 0; \
+    } \
+    static __always_inline void name##_remove(u64 key) \
+    { \
+        struct name##_slot *slot = name##_slot_of(key); \
+        if (slot) \
+            slot->state = HASH_REMOVED; \
+    }
