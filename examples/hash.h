@@ -26,6 +26,7 @@ static __always_inline u32 hash_of(u64 key)
 }
 
 #define HASH_TABLE(name, value_type, slots) \
+    _Static_assert(((slots) & ((slots) - 1)) == 0, "a hash table has a power of two of slots"); \
     struct name##_slot { \
         u64 key; \
         u64 state; \
