@@ -84,7 +84,7 @@ pub struct Host {
     handle: UnsafeCell<ffi::Handle>,
 }
 
-// SAFETY: the library proves of its handle that it may go to another thread (`handles_cross` of crates/bpf_host_c), and a `Host` moves only while
+// SAFETY: the library proves of its handle that it may go to another thread (`handles_cross` of crates/host_handle), and a `Host` moves only while
 // nothing borrows it.
 unsafe impl Send for Host {}
 

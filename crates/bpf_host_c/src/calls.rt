@@ -1,16 +1,14 @@
 ghost use Rattle.std.specs.Prelude.{◌≡◌, ◌≢◌, MatchOption};
 ghost use Rattle.host_types.specs.declared.fault.Fault.TheVariants.{OutOfMemory};
 ghost use Rattle.host_core.specs.declared.reply.Reply.TheVariants.{Refused};
-ghost use Rattle.bpf_host_c.specs.declared.answer.Answer.TheVariants.{Replied};
+ghost use Rattle.host_handle.specs.declared.answer.Answer.TheVariants.{Replied};
 ghost use Rattle.host_types.specs.declared.event.Event.TheVariants.{CreateMap, Load, Begin, HostUpdate, HostLookup, Unload, DropMap, Set, Unmerge, Counters};
-ghost use Rattle.bpf_host_c.specs.declared.answer.Answer.{Answer as CallAnswer};
-ghost use Rattle.bpf_host_c.specs.Answered.{HasAnswer, IsNoOption, Serves};
-ghost use Rattle.bpf_host_c.specs.Codes.{call_code, lookup_code, new_map_number, new_program_number, value_copied, counters_written, refused_written, option_of};
+ghost use Rattle.host_handle.specs.declared.answer.Answer.{Answer as CallAnswer};
+ghost use Rattle.host_handle.specs.Answered.{HasAnswer, IsNoOption, Serves};
+ghost use Rattle.host_handle.specs.Codes.{call_code, lookup_code, new_map_number, new_program_number, value_copied, counters_written, refused_written, option_of};
 
-use crate::handle::BpfHost;
-use crate::structs::{BpfHostCounters, BpfHostRefused};
 use host_core::Event;
-use host_types::Opt;
+use host_handle::{BpfHost, BpfHostCounters, BpfHostRefused, option_numbered};
 use std::alloc::Global;
 
 /// Makes a map of zeros for a tenant, whose pages may be merged or not.
@@ -159,7 +157,7 @@ pub extern "C" fn bpf_host_set(alloc: Global, handle: &mut BpfHost, option: u32,
         × (result ≡ call_code answer)) }
 {
     let Some(option) = option_numbered(option) else {
-        return if handle.is_open { 40 } else { 100 };
+        return if handle.is_open() { 40 } else { 100 };
     };
     let answer = handle.serve(alloc, &Event::Set { option, value });
     answer.code()
@@ -195,17 +193,4 @@ pub extern "C" fn bpf_host_counters(
     let answer = handle.serve(alloc, &Event::Counters);
     answer.write_counters(counters);
     answer.code()
-}
-
-/// The option with a number, if there is one.
-fn option_numbered(number: u32) -> Option<Opt>
-    ensures { result ≡ option_of number }
-{
-    match number {
-        0 => Some(Opt::PagesToScan),
-        1 => Some(Opt::Run),
-        2 => Some(Opt::UseZeroPages),
-        3 => Some(Opt::MaxPageSharing),
-        _ => None,
-    }
 }

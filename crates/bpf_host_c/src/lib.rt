@@ -2,41 +2,27 @@
 //! event. What C owes at a call stands in include/bpf_host.h.
 #![tactic(auto)]
 
-mod answer;
-mod buffer;
 mod calls;
 mod explain;
-mod given;
-mod handle;
 mod life;
 mod loading;
-mod loose;
 mod many;
-mod not_read;
-mod object;
 mod objects;
-mod owner;
 mod runs;
 mod shape;
-mod structs;
 mod texts;
 mod visits;
 
-pub use answer::Answer;
 pub use calls::{
     bpf_host_begin, bpf_host_counters, bpf_host_create_map, bpf_host_drop_map, bpf_host_load,
     bpf_host_lookup, bpf_host_set, bpf_host_unload, bpf_host_unmerge, bpf_host_update,
 };
 pub use explain::bpf_host_explain;
-pub use handle::{BpfHost, handles_cross};
 pub use life::{bpf_host_free, bpf_host_new, bpf_host_version};
 pub use loading::bpf_host_load_object;
 pub use many::bpf_host_run_many;
-pub use object::{BpfHostObject, BpfHostObjectMap};
 pub use objects::bpf_host_read_object;
-pub use owner::Owner;
 pub use runs::{bpf_host_run, bpf_host_step};
 pub use shape::bpf_host_shape;
-pub use structs::{BpfHostCounters, BpfHostOptions, BpfHostRefused, BpfHostRun, BpfHostShape};
 pub use texts::{bpf_host_lower, bpf_host_verify};
 pub use visits::bpf_host_visit;

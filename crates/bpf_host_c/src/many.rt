@@ -1,11 +1,9 @@
 //! Many runs of a program in one call.
 ghost use Rattle.std.specs.Prelude.{◌≡◌, ◌≢◌, ◌⊎◌, ◌*◌, ℕ, length, IfSome, IfNone};
-ghost use Rattle.bpf_host_c.specs.Many.{AnswersMany, stop_code, stop_written};
+ghost use Rattle.host_handle.specs.Many.{AnswersMany, stop_code, stop_written};
 
-use crate::answer::Answer;
-use crate::handle::BpfHost;
-use crate::structs::BpfHostRefused;
 use host_core::Reply;
+use host_handle::{Answer, BpfHost, BpfHostRefused};
 use std::alloc::Global;
 
 /// Runs a loaded program on as many contexts as there are numbers to write, which have one size and stand one after the other, and

@@ -1,8 +1,7 @@
 ghost use Rattle.std.specs.Prelude.{◌≡◌, MatchOption};
-ghost use Rattle.bpf_host_c.specs.Shapes.{HasShape};
+ghost use Rattle.host_handle.specs.Shapes.{HasShape};
 
-use crate::handle::BpfHost;
-use crate::structs::BpfHostShape;
+use host_handle::{BpfHost, BpfHostShape};
 use host_types::Shape;
 use std::alloc::Global;
 

@@ -1,8 +1,8 @@
 //! Types of a section .BTF (the kernel's docs/bpf/btf.rst).
 
-use crate::error::{Cause, ObjectError};
 use crate::field::{part_at, u16_at, u32_at};
 use crate::object::name_at;
+use object_error::{Cause, ObjectError};
 use std::alloc::Global;
 
 /// The bytes of a type, without what follows it by its kind.

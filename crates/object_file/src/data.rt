@@ -3,11 +3,11 @@
 ghost use Rattle.std.specs.Prelude.{◌≡◌, ◌⊎◌, [], length};
 ghost use Rattle.object_file.specs.Maps.{AreShapedMaps};
 
-use crate::error::{Cause, ObjectError};
 use crate::map::{Maps, Reach};
 use crate::object::{NOBITS, Object, REL, RELA, Section};
 use host_types::Shape;
 use host_types::limits::MAX_VALUE_SIZE;
+use object_error::{Cause, ObjectError};
 use std::alloc::Global;
 
 /// What is done with a section of data.

@@ -3,10 +3,10 @@
 ghost use Rattle.object_file.specs.Maps.{AreShapedMaps};
 
 use crate::btf::{ARRAY, Btf, POINTER, SECTION, STRUCT, Type, VARIABLE};
-use crate::error::{Cause, ObjectError, shown};
 use crate::map::{Maps, Reach};
 use crate::object::{Object, Symbols};
 use host_types::Shape;
+use object_error::{Cause, ObjectError, shown};
 use std::alloc::Global;
 
 /// The type of array maps: BPF_MAP_TYPE_ARRAY.

@@ -1,7 +1,7 @@
 //! Which function of an object file is the program.
 
-use crate::error::{Cause, ObjectError, shown};
 use crate::object::{Object, Section, Symbol, Symbols};
+use object_error::{Cause, ObjectError, shown};
 use std::alloc::Global;
 
 /// A function: as many bytes of a section, from an offset on.

@@ -1,6 +1,6 @@
 //! Instructions that clang emits and this host doesn't have, in words that say how to do without them.
 
-use crate::error::Cause;
+use object_error::Cause;
 
 /// The opcode of the wide instruction, which takes two slots.
 pub(crate) const WIDE: u8 = 0x18;

@@ -4,10 +4,10 @@
 ghost use Rattle.object_file.specs.Maps.{AreShapedMaps};
 
 use crate::definition::Definition;
-use crate::error::{Cause, ObjectError, shown};
 use crate::field::{part_at, u32_at};
 use crate::map::{Maps, Reach, is_zeros};
 use crate::object::{Object, Symbol, Symbols};
+use object_error::{Cause, ObjectError, shown};
 use std::alloc::Global;
 
 /// The bytes of a definition.

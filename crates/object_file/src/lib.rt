@@ -5,7 +5,6 @@
 mod btf;
 mod data;
 mod definition;
-mod error;
 mod field;
 mod function;
 mod instruction;
@@ -18,9 +17,9 @@ mod relocation;
 mod source_line;
 mod text;
 
-pub use error::{Cause, Location, ObjectError, ShownLine};
 pub use lines::{SourceLines, TextLines, lines_of};
 pub use map::Map;
+pub use object_error::{Cause, Location, ObjectError, ShownLine};
 pub use program::{Program, program_of};
 pub use source_line::SourceLine;
 pub use text::{Call, Text};

@@ -1,13 +1,13 @@
 //! Lines of sources of which instructions were made: the line information of a section .BTF.ext (the kernel's docs/bpf/btf.rst).
 
-ghost use Rattle.std.specs.Prelude.{◌≤◌, IfSome};
+ghost use Rattle.std.specs.Prelude.{◌≡◌, ◌≤◌, IfOk, IfSome};
 
 use crate::btf::names_of;
-use crate::error::{Cause, Location, ObjectError};
 use crate::field::{part_at, u16_at, u32_at};
 use crate::object::{Object, Section, front_at, name_at};
 use crate::source_line::SourceLine;
 use crate::text::Text;
+use object_error::{Cause, Location, ObjectError, ShownLine};
 use std::alloc::{AllocError, Global};
 
 /// The most records of a file.
@@ -50,12 +50,34 @@ pub fn lines_of<'a>(
     Ok(found)
 }
 
+/// The same refusal; that of an instruction has the line of which this was made, where the file says it.
+pub(crate) fn with_line(
+    error: ObjectError,
+    alloc: Global,
+    bytes: &[u8],
+) -> Result<ObjectError, AllocError>
+    ensures location { IfOk result (λ same. same.location ≡ error.location) }
+    ensures cause { IfOk result (λ same. same.cause ≡ error.cause) }
+{
+    if !error.cause.is_of_instruction() {
+        return Ok(error);
+    }
+    match line_at(bytes, error.location) {
+        Ok(Some(line)) => {
+            let words = line.in_words(alloc)?;
+            Ok(ObjectError {
+                line: ShownLine(Some(words)),
+                ..error
+            })
+        }
+        // Lines that can't be read are no reason for another refusal.
+        Ok(None) | Err(_) => Ok(error),
+    }
+}
+
 /// The line of which the instruction at a byte of a section was made, if the file says it: that of the last record of the section at
 /// the byte or before it.
-pub(crate) fn line_at<'a>(
-    bytes: &'a [u8],
-    location: Location,
-) -> Result<Option<SourceLine<'a>>, ObjectError> {
+fn line_at<'a>(bytes: &'a [u8], location: Location) -> Result<Option<SourceLine<'a>>, ObjectError> {
     if location.section == 0 {
         return Ok(None);
     }

@@ -3,9 +3,9 @@
 ghost use Rattle.std.specs.Prelude.{◌≡◌, ◌+◌, ◌<◌, ◌≤◌, IfOk, All, vec_len, ◌⊎◌, [], length};
 ghost use Rattle.object_file.specs.Maps.{AreShapedMaps, IsMap};
 
-use crate::error::{Cause, ObjectError, shown};
 use host_types::Shape;
 use host_types::limits::MAX_MAPS;
+use object_error::{Cause, ObjectError, shown};
 use std::alloc::{AllocError, Global};
 
 /// A map that a program uses: a name, escaped for a terminal, its shape, and the bytes of its one value at the start, which

@@ -5,8 +5,8 @@ ghost use Rattle.std.specs.Prelude.{◌≡◌, IfOk, IfSome};
 ghost use Rattle.object_file.specs.Names.{IsNameAt};
 ghost use Rattle.object_file.specs.Numbers.{IsPartOfFile};
 
-use crate::error::{Cause, ObjectError};
 use crate::field::{part_at, u16_at, u32_at, u64_at, usize_at};
+use object_error::{Cause, ObjectError};
 
 /// The most bytes of a file.
 pub(crate) const MOST_BYTES: usize = 1 << 24;

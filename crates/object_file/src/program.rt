@@ -6,14 +6,15 @@ ghost use Rattle.object_file.specs.Programs.{AreTextsOf, IsProgramOf};
 
 use crate::data::add_globals;
 use crate::definition::add_defined;
-use crate::error::{Cause, ObjectError};
 use crate::field::{u16_at, u32_at};
 use crate::function::{Function, Functions, MOST_FUNCTIONS, chosen};
 use crate::instruction::first_missing;
 use crate::legacy::add_legacy;
+use crate::lines::with_line;
 use crate::map::{Map, Maps};
 use crate::object::{Object, Symbols};
 use crate::text::{Tables, Text, relocated};
+use object_error::{Cause, ObjectError};
 use std::alloc::Global;
 
 /// A program for a host: the texts of a function and of those that it calls, the first of them the program's own, and the maps that
@@ -31,7 +32,7 @@ pub fn program_of(alloc: Global, bytes: &[u8], name: Option<&str>) -> Result<Pro
 {
     match program_in(alloc, bytes, name) {
         Ok(program) => Ok(program),
-        Err(error) => Err(error.with_line(alloc, bytes)?),
+        Err(error) => Err(with_line(error, alloc, bytes)?),
     }
 }
 

@@ -2,10 +2,10 @@
 
 ghost use Rattle.std.specs.Prelude.{◌<◌, IfSome};
 
-use crate::error::{Cause, ObjectError, shown};
 use crate::field::{u32_at, u64_at, usize_at};
 use crate::map::{Maps, Reach, Target};
 use crate::object::{Object, Symbol, Symbols};
+use object_error::{Cause, ObjectError, shown};
 use std::alloc::{AllocError, Global};
 
 /// The kinds of relocations of a text.

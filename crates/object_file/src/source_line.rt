@@ -1,6 +1,6 @@
 //! A line of a source, and how it is shown.
 
-use crate::error::shown;
+use object_error::shown;
 use std::alloc::{AllocError, Global};
 use terminal_text::is_plain;
 

@@ -4,7 +4,6 @@ ghost use Rattle.std.specs.Prelude.{◌≡◌, ◌+◌, ◌<◌, ◌≤◌, ℕ,
 ghost use Rattle.object_file.specs.Programs.{IsTextOf};
 ghost use Rattle.object_file.specs.Texts.{IsFilled, IsFilledIn};
 
-use crate::error::{Cause, ObjectError};
 use crate::field::{part_at, u32_at};
 use crate::function::{Function, Functions};
 use crate::instruction::{CALL, WIDE};
@@ -12,6 +11,7 @@ use crate::map::Maps;
 use crate::object::{Object, REL, RELA, RELOCATION, Section, Symbol, Symbols};
 use crate::relocation::{ADDRESS, FUNCTION, Filled, NONE, Relocation, filling, name_of};
 use host_types::limits::MAX_TEXT;
+use object_error::{Cause, ObjectError};
 use std::alloc::Global;
 
 /// The text of a function: the offset of the file at which its bytes stand, the offsets in it of the wide instructions that were

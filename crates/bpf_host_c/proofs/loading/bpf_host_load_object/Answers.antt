@@ -1,11 +1,11 @@
 use Rattle.std.proofs.Common.{◌≡◌, inr, ℕ, Bool, Option, Some, sym, subst}
 use Rattle.host_core.specs.declared.reply.Reply.{Reply}
 use Rattle.host_core.specs.HostView.{HostView}
-use Rattle.bpf_host_c.specs.declared.answer.Answer.TheVariants.{Replied}
-use Rattle.bpf_host_c.specs.declared.object.BpfHostObject.{BpfHostObject}
-use Rattle.bpf_host_c.specs.declared.structs.BpfHostRefused.{BpfHostRefused}
-use Rattle.bpf_host_c.specs.Codes.{call_code, new_program_number, refused_written}
-use Rattle.bpf_host_c.specs.Loading.{AnswersLoading, HasAnyMap, HasRightLengths, LoadsObject}
+use Rattle.host_handle.specs.declared.answer.Answer.TheVariants.{Replied}
+use Rattle.host_handle.specs.declared.object.BpfHostObject.{BpfHostObject}
+use Rattle.host_handle.specs.declared.structs.BpfHostRefused.{BpfHostRefused}
+use Rattle.host_handle.specs.Codes.{call_code, new_program_number, refused_written}
+use Rattle.host_handle.specs.Loading.{AnswersLoading, HasAnyMap, HasRightLengths, LoadsObject}
 use Rattle.bpf_host_c.proofs.loading.bpf_host_load_object.Goals as goal
 
 -- what happened to the host that was taken out of the handle and put back

@@ -1,5 +1,0 @@
-use Rattle.bpf_host_c.proofs.Buffers.{front_there}
-use Rattle.bpf_host_c.proofs.buffer.write_front.Goals as goal
-
-pub returns : goal.returns
-returns c = front_there c.args.bytes.now c.args.buffer.now c.copy_from_slice.new.self c.copy_from_slice.ensures.after

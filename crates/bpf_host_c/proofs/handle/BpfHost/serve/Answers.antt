@@ -1,8 +1,0 @@
-use Rattle.bpf_host_c.specs.Answered.{Serves}
-use Rattle.bpf_host_c.proofs.Answering.{answered}
-use Rattle.bpf_host_c.proofs.handle.BpfHost.serve.Goals as goal
-
-pub returns : goal.returns
-returns c =
-    answered (Serves c.args.event.now) c.apply-reply.result c.in-Some.ensures.host c.deref_mut.ensures.value c.put.ensures
-    (λ x stands. let served = c.apply-reply.ensures x stands in (served.0, served.1, (served.2, served.3, served.4)))

@@ -1,0 +1,8 @@
+use Rattle.host_handle.specs.Answered.{Serves}
+use Rattle.host_handle.proofs.Answering.{answered}
+use Rattle.host_handle.proofs.handle.BpfHost.serve.Goals as goal
+
+pub returns : goal.returns
+returns c =
+    answered (Serves c.args.event.now) c.apply-reply.result c.in-Some.ensures.host c.deref_mut.ensures.value c.put.ensures
+    (λ x stands. let served = c.apply-reply.ensures x stands in (served.0, served.1, (served.2, served.3, served.4)))
