@@ -1,7 +1,7 @@
 //! The text of a program as the verifier accepts it, or why there is none.
 
-use crate::asked::Asked;
 use crate::fault::Fault;
+use command_line::ToLoad;
 use lowered_text::lowered;
 use object_program::{Chosen, refusal_words, request_of};
 use object_text::ObjectText;
@@ -10,7 +10,7 @@ use std::alloc::Global;
 /// The text of an object's program, lowered if the verifier doesn't accept it as it is.
 pub fn accepted_text(
     alloc: Global,
-    asked: &Asked<'_>,
+    asked: &ToLoad<'_>,
     bytes: &[u8],
     object: &ObjectText,
 ) -> Result<Vec<u8>, Fault> {

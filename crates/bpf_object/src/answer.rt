@@ -1,11 +1,12 @@
 //! The answer to a request.
 
 use crate::accepted::accepted_text;
-use crate::asked::{Asked, Form, asked_of};
 use crate::events::{hex_of, write_events, write_shapes};
 use crate::fault::{Fault, written};
 use crate::file::bytes_at;
+use crate::fronts::fronts_of;
 use crate::runs::{Accepted, print_runs};
+use command_line::{Form, ToLoad, loaded_of};
 use object_text::{ObjectText, text_of};
 use std::alloc::{AllocError, Global};
 use std::io::Write;
@@ -19,7 +20,9 @@ where
     W: Write,
 {
     let alloc = rt.alloc();
-    let asked = asked_of(alloc, words)?;
+    let asked = loaded_of(alloc, words)?;
+    // What is wrong with words is said before the file is opened.
+    let fronts = fronts_of(alloc, &asked)?;
     let bytes = bytes_at(rt, asked.path)?;
     let object = object_of(alloc, &asked, bytes.as_slice())?;
     match &asked.form {
@@ -39,7 +42,7 @@ where
             written(writeln!(output, "{hex}"))
         }
         Form::Maps => written(write_shapes(&object, output)),
-        Form::Runs(fronts) => {
+        Form::Runs(_) => {
             let text = accepted_text(alloc, &asked, bytes.as_slice(), &object)?;
             let accepted = Accepted {
                 text: text.as_slice(),
@@ -52,7 +55,7 @@ where
 }
 
 /// The program of an object file.
-fn object_of(alloc: Global, asked: &Asked<'_>, bytes: &[u8]) -> Result<ObjectText, Fault> {
+fn object_of(alloc: Global, asked: &ToLoad<'_>, bytes: &[u8]) -> Result<ObjectText, Fault> {
     match text_of(alloc, bytes, asked.section) {
         Ok(object) => Ok(object),
         Err(error) if error.is_out_of_memory() => Err(Fault::OutOfMemory(AllocError)),
@@ -63,7 +66,7 @@ fn object_of(alloc: Global, asked: &Asked<'_>, bytes: &[u8]) -> Result<ObjectTex
 /// The hex text of an object's program, as the verifier accepts it if it isn't asked for as it is.
 fn hex_text(
     alloc: Global,
-    asked: &Asked<'_>,
+    asked: &ToLoad<'_>,
     bytes: &[u8],
     object: &ObjectText,
 ) -> Result<String, Fault> {

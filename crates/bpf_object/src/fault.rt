@@ -1,5 +1,6 @@
 //! Why the program ended with another status than 0.
 
+use command_line::WrongWords;
 use host_file::FileFault;
 use object_text::NotTaken;
 use std::alloc::{AllocError, AllocFailed};
@@ -34,6 +35,16 @@ pub enum Fault {
 impl From<AllocError> for Fault {
     fn from(error: AllocError) -> Self {
         Fault::OutOfMemory(error)
+    }
+}
+
+/// Words that make no request.
+impl From<WrongWords> for Fault {
+    fn from(wrong: WrongWords) -> Self {
+        match wrong {
+            WrongWords::Usage(said) => Fault::Usage(said),
+            WrongWords::OutOfMemory(error) => Fault::OutOfMemory(error),
+        }
     }
 }
 

@@ -5,10 +5,10 @@
 
 mod accepted;
 mod answer;
-mod asked;
 mod events;
 mod fault;
 mod file;
+mod fronts;
 mod runs;
 
 use answer::answer;

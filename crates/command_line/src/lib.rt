@@ -1,15 +1,17 @@
-//! The words of the command lines of `bpf_host` (docs/HOST.md), of `explain` (docs/EXPLAIN.md), of `lower` (docs/LOWER.md) and
-//! of `merging` (docs/MERGING.md): what they ask for.
+//! The words of the command lines of `bpf_host` (docs/HOST.md), of `explain` (docs/EXPLAIN.md), of `lower` (docs/LOWER.md), of
+//! `merging` (docs/MERGING.md) and of `bpf_object` (man/bpf_object.1): what they ask for.
 #![tactic(auto)]
 
 mod explain;
 mod lower;
 mod merging;
+mod object;
 
 use clap::{Arg, ArgAction, ArgMatches, Command, Error};
 pub use explain::{ToExplain, explained_of};
 pub use lower::{ToLower, lowered_of};
 pub use merging::{ToDraw, drawn_of};
+pub use object::{Form, ToLoad, loaded_of};
 use std::alloc::{AllocError, Global};
 use terminal_text::quoted;
 

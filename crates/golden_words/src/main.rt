@@ -1,9 +1,9 @@
 //! Reads command lines from the standard input, whose words bars set apart, and prints what each asks for, or
-//! what is said of words that ask for nothing, after `! `, and a text that is asked for, after `= `. Words after `explain`, `lower`
-//! and `merging` are those programs', and others `bpf_host`'s. The file `stdout` of this crate says what is wanted.
+//! what is said of words that ask for nothing, after `! `, and a text that is asked for, after `= `. Words after `explain`, `lower`,
+//! `merging` and `bpf_object` are those programs', and others `bpf_host`'s. The file `stdout` of this crate says what is wanted.
 #![tactic(auto)]
 
-use command_line::{Asked, WrongWords, drawn_of, explained_of, lowered_of, request_of};
+use command_line::{Asked, WrongWords, drawn_of, explained_of, loaded_of, lowered_of, request_of};
 use std::alloc::{AllocError, Global};
 use std::fmt::Debug;
 use std::io;
@@ -20,6 +20,9 @@ const LOWER: &str = "/home/someone/projects/bpf_host/crates/lower/out/lower";
 
 /// That of `merging`.
 const MERGING: &str = "/home/someone/projects/bpf_host/crates/merging/out/merging";
+
+/// That of `bpf_object`.
+const BPF_OBJECT: &str = "/home/someone/projects/bpf_host/crates/bpf_object/out/bpf_object";
 
 /// The words of a line, after the path of a program.
 fn words_of(alloc: Global, path: &str, line: &str) -> Result<Vec<String>, AllocError> {
@@ -45,6 +48,10 @@ fn print_asked(rt: &(impl AllocGlobal + Print), line: &str) -> io::Result<()> {
     if let Some(words) = line.strip_prefix("merging") {
         let words = words_of(rt.alloc(), MERGING, words.trim_start())?;
         return print_asked_of(rt, drawn_of(rt.alloc(), words.as_slice()));
+    }
+    if let Some(words) = line.strip_prefix("bpf_object") {
+        let words = words_of(rt.alloc(), BPF_OBJECT, words.trim_start())?;
+        return print_answer(rt, loaded_of(rt.alloc(), words.as_slice()));
     }
     let words = words_of(rt.alloc(), BPF_HOST, line)?;
     print_answer(rt, request_of(rt.alloc(), words.as_slice()))

@@ -1,117 +1,92 @@
-//! The words of the command line.
+//! The words of `bpf_object`.
 
-use crate::fault::Fault;
+use crate::{WrongWords, context, printed_of, said_of, usage};
 use clap::{Arg, ArgAction, ArgMatches, Command};
-use engines::check::check_request_of;
-use host_types::Bytes;
 use std::alloc::{AllocError, Global};
 use terminal_text::quoted;
 
 /// The program's name.
 const NAME: &str = "bpf_object";
 
-/// What words ask for.
-#[derive(Drop)]
-pub struct Asked<'a> {
+/// An object file whose program is to be loaded, by a tenant and with a context of a size.
+#[derive(Debug, Drop)]
+pub struct ToLoad<'a> {
     pub path: &'a str,
+    /// The section or the function, where there are several.
     pub section: Option<&'a str>,
     pub tenant: u32,
     pub context: u32,
     /// Whether the text is to be printed as it is, without being lowered.
     pub as_is: bool,
-    pub form: Form,
+    pub form: Form<'a>,
 }
 
 /// What is printed of a program.
-#[derive(Drop)]
-pub enum Form {
+#[derive(Debug, Drop)]
+pub enum Form<'a> {
     /// Events of a host file.
     Events,
     /// The text, as hex.
     Hex,
     /// The shapes of its maps.
     Maps,
-    /// What it returns when it is run on contexts, of each of which the first bytes are given.
-    Runs(Vec<Bytes>),
+    /// What it returns when it is run on contexts, of each of which the first bytes are given, in hex. The words are as
+    /// they were given.
+    Runs(Vec<&'a str>),
 }
 
-/// What words ask for, the program's name being the first of them. All that makes no request, help among it, is usage.
-pub fn asked_of<'a>(alloc: Global, words: &'a [String]) -> Result<Asked<'a>, Fault> {
-    let Ok(matches) = command(alloc)?.try_get_matches_from(words) else {
-        return Err(Fault::Usage(usage_of(alloc, words)?));
+/// What the words of `bpf_object` ask for, the program's name being the first of them. All that isn't a request, help
+/// among it, is usage.
+pub fn loaded_of<'a>(alloc: Global, words: &'a [String]) -> Result<ToLoad<'a>, WrongWords> {
+    let object = command(alloc).map_err(WrongWords::OutOfMemory)?;
+    let Ok(matches) = object.try_get_matches_from(words) else {
+        let answered = printed_of(alloc, NAME, words).map_err(WrongWords::OutOfMemory)?;
+        return Err(usage(said_of(alloc, command(alloc), answered.as_slice())));
     };
     let Some(path) = matches.get_str("FILE") else {
-        return Err(Fault::Usage(String::from_str(alloc, "no FILE is given")?));
+        return Err(usage(String::from_str(alloc, "no FILE is given")));
     };
+    // A wrong context is named before a wrong tenant, and that before forms that exclude each other.
     let context = number_of(alloc, &matches, "context")?;
-    Ok(Asked {
+    Ok(ToLoad {
         path,
         section: matches.get_str("section"),
         tenant: number_of(alloc, &matches, "tenant")?,
         context,
         as_is: matches.get_flag("as-is"),
-        form: form_of(alloc, &matches, context)?,
+        form: form_of(alloc, &matches)?,
     })
 }
 
-/// The form that words ask for, of a program whose contexts have so many bytes.
-fn form_of(alloc: Global, matches: &ArgMatches<'_>, context: u32) -> Result<Form, Fault> {
+/// The form that words ask for.
+fn form_of<'a>(alloc: Global, matches: &ArgMatches<'a>) -> Result<Form<'a>, WrongWords> {
     if let Some(words) = matches.get_strs("run") {
-        return Ok(Form::Runs(fronts_of(alloc, words, context)?));
+        let words = words.to_vec(alloc).map_err(WrongWords::OutOfMemory)?;
+        return Ok(Form::Runs(words));
     }
     match (matches.get_flag("hex"), matches.get_flag("maps")) {
         (false, false) => Ok(Form::Events),
         (true, false) => Ok(Form::Hex),
         (false, true) => Ok(Form::Maps),
         (true, true) => {
-            let said = String::from_str(alloc, "--hex and --maps can't both be given")?;
-            Err(Fault::Usage(said))
+            let said = String::from_str(alloc, "--hex and --maps can't both be given");
+            Err(usage(said))
         }
     }
-}
-
-/// The first bytes of contexts of a size, in hex.
-fn fronts_of(alloc: Global, words: &[&str], size: u32) -> Result<Vec<Bytes>, Fault> {
-    let mut fronts = Vec::new(alloc);
-    for word in words {
-        // `check` says what is wrong with hex text; it needs no maps for that.
-        let front = check_request_of(alloc, word, &[], "0")?.text;
-        let length = front.as_slice().len();
-        if length > size as usize {
-            return Err(Fault::Usage(format!(in alloc;
-                "HEX has {length} bytes, and the context {size}; --context says how many it has"
-            )?));
-        }
-        fronts.push(front)?;
-    }
-    Ok(fronts)
 }
 
 /// The number that an option has, or 0 where it isn't given.
-fn number_of(alloc: Global, matches: &ArgMatches<'_>, option: &str) -> Result<u32, Fault> {
+fn number_of(alloc: Global, matches: &ArgMatches<'_>, option: &str) -> Result<u32, WrongWords> {
     let word = matches.get_str(option).unwrap_or("0");
     let is_decimal = word.bytes().all(|byte| byte.is_ascii_digit());
     match word.parse::<u32>() {
         Ok(number) if is_decimal => Ok(number),
         _ => {
-            let word = quoted(alloc, word)?;
-            Err(Fault::Usage(format!(in alloc;
+            let word = quoted(alloc, word).map_err(WrongWords::OutOfMemory)?;
+            Err(usage(format!(in alloc;
                 "--{option} `{word}` is no decimal number from 0 to 4294967295"
-            )?))
+            )))
         }
-    }
-}
-
-/// What the command says of words that make no request: those from outside are cut and escaped.
-fn usage_of(alloc: Global, words: &[String]) -> Result<String, AllocError> {
-    let mut shown = Vec::new(alloc);
-    shown.push(String::from_str(alloc, NAME)?)?;
-    for word in words.iter().skip(1) {
-        shown.push(quoted(alloc, word.as_str())?)?;
-    }
-    match command(alloc)?.try_get_matches_from(shown.as_slice()) {
-        Ok(_) => String::from_str(alloc, "the words make no request"),
-        Err(error) => error.to_string(alloc),
     }
 }
 
@@ -132,12 +107,7 @@ fn command<'a>(alloc: Global) -> Result<Command<'a>, AllocError> {
             "the section or the function, where there are several",
         ))?
         .arg(option(alloc, "tenant", "N", "the tenant, 0 if it isn't given"))?
-        .arg(option(
-            alloc,
-            "context",
-            "N",
-            "the bytes of the context, 0 if it isn't given",
-        ))?
+        .arg(context(alloc))?
         .arg(flag(
             alloc,
             "as-is",
