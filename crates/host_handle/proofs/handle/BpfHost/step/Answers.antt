@@ -1,6 +1,6 @@
 use Rattle.host_handle.specs.Answered.{Steps}
 use Rattle.host_handle.proofs.Answering.{answered}
-use Rattle.host_handle.proofs.runs.BpfHost.step.Goals as goal
+use Rattle.host_handle.proofs.handle.BpfHost.step.Goals as goal
 
 pub returns : goal.returns
 returns c =

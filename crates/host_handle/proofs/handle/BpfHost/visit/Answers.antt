@@ -1,6 +1,6 @@
 use Rattle.host_handle.specs.Answered.{VisitsAndCounts}
 use Rattle.host_handle.proofs.Answering.{answered}
-use Rattle.host_handle.proofs.visits.BpfHost.visit.Goals as goal
+use Rattle.host_handle.proofs.handle.BpfHost.visit.Goals as goal
 
 pub returns : goal.returns
 returns c =
