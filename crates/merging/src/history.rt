@@ -59,23 +59,12 @@ pub fn history_of(alloc: Global, file: &HostFile) -> Result<History, Fault> {
 
 /// Replays a host file on its new host.
 fn replayed(alloc: Global, host: Host, file: &HostFile) -> Result<History, AllocError> {
-    let mut begun = Vec::new(alloc);
-    for _tenant in 0..file.tenants {
-        begun.push(0)?;
-    }
-    let mut recorder = Recorder {
-        alloc,
-        host,
-        pages_to_scan: file.options.pages_to_scan,
-        begun,
-        points: Thinned::new(alloc),
-    };
     let commands = file.commands.as_slice();
-    recorder.note(None, None, Vec::new(alloc))?;
-    for (number, command) in commands.iter().enumerate() {
-        recorder.perform(number, command)?;
-    }
-    let (points, steps, stride) = recorder.points.finish()?;
+    let mut recorder = Recorder::new(alloc, host, file)?;
+    let performed = recorder.perform_all(commands);
+    let points = recorder.points;
+    performed?;
+    let (points, steps, stride) = points.finish()?;
     Ok(History {
         points,
         steps,
@@ -84,7 +73,37 @@ fn replayed(alloc: Global, host: Host, file: &HostFile) -> Result<History, Alloc
     })
 }
 
+/// No run that a tenant has begun, of each.
+fn none_begun(alloc: Global, tenants: u32) -> Result<Vec<u64>, AllocError> {
+    let mut begun = Vec::new(alloc);
+    for _tenant in 0..tenants {
+        begun.push(0)?;
+    }
+    Ok(begun)
+}
+
 impl Recorder {
+    /// The new host of a file at work.
+    fn new(alloc: Global, host: Host, file: &HostFile) -> Result<Self, AllocError> {
+        let begun = none_begun(alloc, file.tenants)?;
+        Ok(Recorder {
+            alloc,
+            host,
+            pages_to_scan: file.options.pages_to_scan,
+            begun,
+            points: Thinned::new(alloc),
+        })
+    }
+
+    /// Performs commands in their order, and notes the counters before them and after each.
+    fn perform_all(&mut self, commands: &[Command]) -> Result<(), AllocError> {
+        self.note(None, None, Vec::new(self.alloc))?;
+        for (number, command) in commands.iter().enumerate() {
+            self.perform(number, command)?;
+        }
+        Ok(())
+    }
+
     /// Performs a command, that of the file's event of this number.
     fn perform(&mut self, number: usize, command: &Command) -> Result<(), AllocError> {
         let mut answer = Vec::new(self.alloc);
