@@ -1,9 +1,9 @@
 /* Runs a filter from an object file in a program of C, and then further ones, each in place of the one before (docs/EMBEDDING.md). At the top:
  *
- *     clang -g -O2 -target bpf -c examples/weights.c -o weights.o
- *     cc examples/embedded.c -Iinclude $(tools/static_library) -o embedded && ./embedded weights.o
+ *     clang -g -O2 -target bpf -c examples/ports.c -o ports.o
+ *     cc examples/embedded.c -Iinclude $(tools/static_library) -o embedded && ./embedded ports.o
  *
- * It prints 60: sixty bytes of 0, which weigh 1 each. Of a file that is refused it prints why, with the line of C. */
+ * It prints 1: the first packet to a port passes. Of a file that is refused it prints why, with the line of C. */
 #include "bpf_host.h"
 #include <stdio.h>
 
@@ -12,8 +12,8 @@ static uint8_t file[1 << 20];
 static struct bpf_host_object object;
 static struct bpf_host_refused refused;
 
-/* A `struct packet` of length 64. */
-static const uint8_t packet[64] = {64};
+/* A `struct packet` to port 53. */
+static const uint8_t packet[8] = {53};
 
 /* Reads an upload, and returns how many bytes it has. */
 static size_t receive(const char *path)
@@ -37,7 +37,7 @@ static void unload(struct bpf_host *host, uint32_t tenant, uint32_t program)
 static void replace(struct bpf_host *host, size_t size, uint32_t *tenant, uint32_t *program)
 {
     uint32_t spare = 1 - *tenant, next;
-    if (bpf_host_read_object(file, size, "weigh", 5, 64, &object, &refused)) {
+    if (bpf_host_read_object(file, size, "admit", 5, 8, &object, &refused)) {
         printf("%s\n", object.why);
     } else if (bpf_host_load_object(host, spare, &object, false, &next, &refused) == 0) {
         unload(host, *tenant, *program);
@@ -53,15 +53,15 @@ int main(int argc, char **argv)
     struct bpf_host_run run;
     uint32_t tenant = 0, program, code;
     if ((code = bpf_host_new(32, 2, &options, &host)) ||                                    /* 32 frames (pages of 4 KiB) for maps; 2 tenants */
-        (code = bpf_host_read_object(file, size, "weigh", 5, 64, &object, &refused)) ||     /* verifies, for contexts of 64 bytes */
+        (code = bpf_host_read_object(file, size, "admit", 5, 8, &object, &refused)) ||      /* verifies, for contexts of 8 bytes */
         (code = bpf_host_load_object(&host, tenant, &object, false, &program, &refused)) || /* makes its maps, not mergeable, and loads it */
-        (code = bpf_host_run(&host, tenant, program, packet, 64, &run, &refused)))
+        (code = bpf_host_run(&host, tenant, program, packet, 8, &run, &refused)))
         printf("%s\n%s\n", bpf_host_code_name(code), object.why);
     else
         printf("%llu\n", (unsigned long long)run.ret);
     for (int upload = 2; upload < argc && code == 0; upload++) {
         replace(&host, receive(argv[upload]), &tenant, &program);
-        code = bpf_host_run(&host, tenant, program, packet, 64, &run, &refused);
+        code = bpf_host_run(&host, tenant, program, packet, 8, &run, &refused);
         printf("%llu\n", (unsigned long long)run.ret);
     }
     bpf_host_free(&host);
