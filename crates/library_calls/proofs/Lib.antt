@@ -2,3 +2,4 @@ mod Walks
 mod Unnoticed
 mod Together
 pub mod Isolated
+pub mod Several

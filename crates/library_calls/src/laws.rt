@@ -1,8 +1,19 @@
 ghost use Rattle.library_calls.specs.Isolation.{CallsAreIsolated};
+ghost use Rattle.library_calls.specs.Several.{EventsAreCalls, ManyRunsAreCalls};
 
 /// The calls on two handles are isolated, whose hosts agree on a tenant: where the calls for that tenant are the same in the same order,
 /// the replies to them are the same up to the first that says that frames or memory are short, whatever calls for others stand between
 /// them; and if there is none, the hosts agree on the tenant afterwards. This is a law about the definitions: the function does nothing.
 pub fn calls_are_isolated()
     ensures { CallsAreIsolated }
+{}
+
+/// A call that makes many runs does what that many calls of one run each do, so that it is isolated as they are. A law about the definitions, too.
+pub fn many_runs_are_calls()
+    ensures { ManyRunsAreCalls }
+{}
+
+/// A call that lets events happen in their order, as one that loads an object, does what a call each does. A law about the definitions, too.
+pub fn events_are_calls()
+    ensures { EventsAreCalls }
 {}

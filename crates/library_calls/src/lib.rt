@@ -4,4 +4,4 @@
 
 mod laws;
 
-pub use laws::calls_are_isolated;
+pub use laws::{calls_are_isolated, events_are_calls, many_runs_are_calls};
