@@ -54,7 +54,7 @@ int main(int argc, char **argv)
     uint32_t tenant = 0, program, code;
     if ((code = bpf_host_new(32, 2, &options, &host)) ||                                    /* 32 frames (pages of 4 KiB) for maps; 2 tenants */
         (code = bpf_host_read_object(file, size, "admit", 5, 8, &object, &refused)) ||      /* verifies, for contexts of 8 bytes */
-        (code = bpf_host_load_object(&host, tenant, &object, false, &program, &refused)) || /* makes its maps, not mergeable, and loads it */
+        (code = bpf_host_load_object(&host, tenant, &object, false, &program, &refused)) || /* makes its maps; false: no page is merged */
         (code = bpf_host_run(&host, tenant, program, packet, 8, &run, &refused)))
         printf("%s\n%s\n", bpf_host_code_name(code), object.why);
     else
