@@ -2,7 +2,7 @@
 
 use host_core::Event;
 use host_file::Command;
-use host_types::{Bytes, Opt};
+use host_types::{Bytes, MapNo, Opt};
 use std::fmt;
 
 /// The most bytes of a value, a text or a context that are written.
@@ -56,27 +56,12 @@ fn write_event<W: fmt::Write>(f: &mut fmt::Formatter<W>, event: &Event) -> fmt::
             value_size,
             entries,
             mergeable,
-        } => {
-            write!(
-                f,
-                "map, tenant {tenant}, value_size {value_size}, entries {entries}"
-            )?;
-            if *mergeable {
-                return Ok(());
-            }
-            write!(f, ", mergeable false")
-        }
+        } => write_map(f, *tenant, *value_size, *entries, *mergeable),
         Event::Load {
             tenant,
             text,
             context_size,
-        } => {
-            let hex = Digits(text.as_slice());
-            write!(
-                f,
-                "load, tenant {tenant}, hex {hex}, context {context_size}"
-            )
-        }
+        } => write_load(f, *tenant, text, *context_size),
         Event::Begin {
             tenant,
             program,
@@ -87,13 +72,7 @@ fn write_event<W: fmt::Write>(f: &mut fmt::Formatter<W>, event: &Event) -> fmt::
             map,
             key,
             value,
-        } => {
-            let value = Digits(value.as_slice());
-            write!(
-                f,
-                "update, tenant {tenant}, map {map}, key {key}, value {value}"
-            )
-        }
+        } => write_update(f, *tenant, *map, *key, value),
         Event::HostLookup { tenant, map, key } => {
             write!(f, "lookup, tenant {tenant}, map {map}, key {key}")
         }
@@ -110,6 +89,53 @@ fn write_event<W: fmt::Write>(f: &mut fmt::Formatter<W>, event: &Event) -> fmt::
         Event::Unmerge => write!(f, "unmerge"),
         Event::Counters => write!(f, "counters"),
     }
+}
+
+/// Writes what makes a map.
+fn write_map<W: fmt::Write>(
+    f: &mut fmt::Formatter<W>,
+    tenant: u32,
+    value_size: u32,
+    entries: u32,
+    mergeable: bool,
+) -> fmt::Result {
+    write!(
+        f,
+        "map, tenant {tenant}, value_size {value_size}, entries {entries}"
+    )?;
+    if mergeable {
+        return Ok(());
+    }
+    write!(f, ", mergeable false")
+}
+
+/// Writes what loads a program.
+fn write_load<W: fmt::Write>(
+    f: &mut fmt::Formatter<W>,
+    tenant: u32,
+    text: &Bytes,
+    context_size: u32,
+) -> fmt::Result {
+    let hex = Digits(text.as_slice());
+    write!(
+        f,
+        "load, tenant {tenant}, hex {hex}, context {context_size}"
+    )
+}
+
+/// Writes what updates an element of a map.
+fn write_update<W: fmt::Write>(
+    f: &mut fmt::Formatter<W>,
+    tenant: u32,
+    map: MapNo,
+    key: u32,
+    value: &Bytes,
+) -> fmt::Result {
+    let value = Digits(value.as_slice());
+    write!(
+        f,
+        "update, tenant {tenant}, map {map}, key {key}, value {value}"
+    )
 }
 
 /// What an option is called.
