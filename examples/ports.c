@@ -1,4 +1,4 @@
-/* Lets so many packets to each port pass, and drops the others: an array map of counters. */
+/* Lets the first LIMIT packets to each port pass, and drops the others: an array map of counters. */
 #include "bpf_helpers.h"
 
 #define LIMIT 1

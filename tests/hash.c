@@ -29,12 +29,15 @@ static u64 key_numbered(u32 number)
     return (number + 1) * 0xd1342543de82ef95ull;
 }
 
-static u32 count(void)
+/* Whether all slots that a key may have are taken by others. */
+static _Bool has_no_room(u64 key)
 {
-    u32 there = 0;
-    for (u32 number = 0; number < KEYS; number++)
-        there += is_there[number];
-    return there;
+    for (u32 probe = 0; probe < HASH_PROBES; probe++) {
+        const struct table_slot *slot = &slots[(hash_of(key) + probe) & (SLOTS - 1)];
+        if (slot->state != HASH_TAKEN || slot->key == key)
+            return 0;
+    }
+    return 1;
 }
 
 static _Bool find(u32 number)
@@ -49,7 +52,7 @@ static _Bool find_or_add(u32 number, u64 written)
     u64 *value = table_find_or_add(key_numbered(number));
     if (!value) {
         full++;
-        return !is_there[number] && count() >= HASH_PROBES;
+        return !is_there[number] && has_no_room(key_numbered(number));
     }
     if (is_there[number] ? *value != wanted[number] : *value != 0)
         return 0;

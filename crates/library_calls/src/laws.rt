@@ -8,12 +8,14 @@ pub fn calls_are_isolated()
     ensures { CallsAreIsolated }
 {}
 
-/// A call that makes many runs does what that many calls of one run each do, so that it is isolated as they are. A law about the definitions, too.
+/// A call that makes many runs does what as many calls of one run each do as it made. `calls_are_isolated` speaks of these; that it makes
+/// equally many beside other tenants isn't stated. A law about the definitions, too.
 pub fn many_runs_are_calls()
     ensures { ManyRunsAreCalls }
 {}
 
-/// A call that lets events happen in their order, as one that loads an object, does what a call each does. A law about the definitions, too.
+/// A call that lets events happen in their order, as one that loads an object, does what a call for each of them does. A law about the
+/// definitions, too.
 pub fn events_are_calls()
     ensures { EventsAreCalls }
 {}
