@@ -61,7 +61,7 @@ pub fn history_of(alloc: Global, file: &HostFile) -> Result<History, Fault> {
 fn replayed(alloc: Global, host: Host, file: &HostFile) -> Result<History, AllocError> {
     let commands = file.commands.as_slice();
     let mut recorder = Recorder::new(alloc, host, file)?;
-    // The points are taken out before the first `?`, so that the rest is dropped in one place.
+    // The points are taken out before the next `?`, so that the rest is dropped in one place.
     let performed = recorder.perform_all(commands);
     let points = recorder.points;
     performed?;
