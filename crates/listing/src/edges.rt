@@ -1,6 +1,6 @@
 //! The edges that join at a slot.
 
-use crate::knowledge::Knowledge;
+use knowledge::Knowledge;
 use std::alloc::{AllocError, Global};
 use verifier::Target;
 use verifier_kinds::Description;

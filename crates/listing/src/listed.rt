@@ -4,11 +4,11 @@ ghost use Rattle.verifier.specs.Subject.{IsContextSize};
 ghost use Rattle.verifier.specs.Verified.{AreShapes};
 
 use crate::edges::Edges;
-use crate::knowledge::Knowledge;
 use bpf_decode::decode;
 use findings::{CLEAR, CheckedText, Cut, is_within_limits};
 use host_types::limits::MAX_MAPS;
 use host_types::{Refused, Shape};
+use knowledge::Knowledge;
 use std::alloc::{AllocError, Global};
 use verifier::{Candidate, Verified, is_context_size, verify};
 

@@ -1,9 +1,9 @@
 //! Locations of which something is known, and what.
 
 use crate::edges::Edge;
-use crate::knowledge::Knowledge;
 use crate::words::{Few, StackFew};
 use bpf_decode::FRAME_POINTER;
+use knowledge::Knowledge;
 use std::fmt;
 use verifier_kinds::{Description, Kind, StackSlot};
 

@@ -1,16 +1,16 @@
 //! The listing of a text: its rows, and what is shown at each.
 
 ghost use Rattle.std.specs.Prelude.{ℕ, ◌<◌, ◌^◌, length, IfOk};
-ghost use Rattle.listing.specs.Rows.{AreRows};
+ghost use Rattle.knowledge.specs.Rows.{AreRows};
 
-use crate::knowledge::Knowledge;
+use crate::item::Item;
 use crate::listed::{Known, Listed};
 use crate::location::{Differing, Fact, Location, STACK_SLOTS};
-use crate::rows::{Item, Row, Slot, rows_of};
 use crate::seen::Seen;
 use bpf_decode::{FRAME_POINTER, Insn};
 use findings::{CheckedText, Kinds, registers_read};
 use host_types::Refused;
+use knowledge::{Knowledge, Row, Slot, rows_of};
 use std::alloc::{AllocError, Global};
 use std::io;
 use std::io::Write;

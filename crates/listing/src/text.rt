@@ -1,13 +1,14 @@
 //! The listing as text: a row a line, and lines below it for items that find no room.
 
+use crate::item::Item;
 use crate::lines::{Line, fold};
 use crate::paint::{Paint, Part};
-use crate::rows::{Item, Row};
 use crate::shown::{Detail, Listing};
 use bpf_decode::Insn;
 use disassembly::AssemblyAt;
 use findings::write_limits;
 use host_types::Refused;
+use knowledge::Row;
 use std::io;
 use std::io::Write;
 

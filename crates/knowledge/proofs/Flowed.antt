@@ -16,7 +16,7 @@ use Rattle.verifier.proofs.Flows.{IsAhead, flow_ahead}
 use Rattle.verifier.proofs.Passes.{described_read}
 use Rattle.verifier.proofs.Lawful.{first_instruction, described_instruction, flows_ahead}
 use Rattle.verifier.proofs.Tight.{tight_is_tight, length-tight}
-use Rattle.listing.specs.Knowledge.{HasFlowed, IsKnowledge}
+use Rattle.knowledge.specs.Knowledge.{HasFlowed, IsKnowledge}
 
 -- targets that are reached in two parts
 arrived-append : (slot : ℕ) (known : Option Description) (some more : List (ℕ × Description)) → arrived slot known (some ++ more) ≡ arrived slot (arrived slot known some) more

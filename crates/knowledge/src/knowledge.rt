@@ -7,7 +7,7 @@ ghost use Rattle.verifier.specs.Flow.{target};
 ghost use Rattle.verifier.specs.Table.{described, flows_by, flows_from, known_with, arrived, tight_table, Breaks};
 ghost use Rattle.verifier.specs.Pass.{AreDescribed, target_in, targets_in};
 ghost use Rattle.verifier.specs.Verified.{kind_at};
-ghost use Rattle.listing.specs.Knowledge.{stack_at, HasFlowed, IsKnowledge};
+ghost use Rattle.knowledge.specs.Knowledge.{stack_at, HasFlowed, IsKnowledge};
 
 use std::alloc::{AllocError, Global};
 use std::marker::Model;
@@ -25,7 +25,7 @@ pub struct Knowledge {
 
 impl Model for Knowledge {
     ghost use Rattle.verifier.specs.Subject.{Subject};
-    ghost use Rattle.listing.specs.Knowledge.{IsKnowledge};
+    ghost use Rattle.knowledge.specs.Knowledge.{IsKnowledge};
 
     ghost Value = { Subject };
 

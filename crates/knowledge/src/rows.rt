@@ -1,11 +1,9 @@
-//! The rows of a listing, and what is shown at each: what its writers write.
+//! The rows of a listing: each slot in one of them.
 
 ghost use Rattle.std.specs.Prelude.{◌≡◌, ◌<◌, ◌≤◌, ◌^◌, length, IfOk};
-ghost use Rattle.listing.specs.Rows.{first_slot, last_slot, AreRows};
+ghost use Rattle.knowledge.specs.Rows.{first_slot, last_slot, AreRows};
 
-use crate::location::{Differing, Fact, Location};
 use std::alloc::{AllocError, Global};
-use std::fmt;
 
 /// A row of a listing.
 #[derive(Clone, Copy, PartialEq, Eq)]
@@ -32,17 +30,18 @@ impl Row {
 
 /// What a slot is in a listing.
 #[derive(Clone, Copy, PartialEq, Eq)]
-pub(crate) enum Slot {
+pub enum Slot {
     /// An instruction begins there.
     First,
+    /// It is the second half of a wide instruction.
     SecondHalf,
     /// It is left out.
     Folded,
 }
 
-/// The rows of slots, of which those that are left out one after the other have one.
+/// The rows of slots, of which those that are left out one after the other have one. It fails where there is no memory for them.
 #[tactic(auto, using(crate::proofs::InOrder::pushed_row))]
-pub(crate) fn rows_of(alloc: Global, slots: &[Slot]) -> Result<Vec<Row>, AllocError>
+pub fn rows_of(alloc: Global, slots: &[Slot]) -> Result<Vec<Row>, AllocError>
     requires { length slots.now < 2 ^ 32 }
     ensures { IfOk result (λ rows. AreRows rows.items 0 (length slots.now)) }
 {
@@ -92,32 +91,4 @@ fn fold_end(slots: &[Slot], first: u32) -> u32
         last = slot;
     }
     last
-}
-
-/// What is shown at an instruction: what is known before it runs.
-#[derive(Clone, Copy)]
-pub enum Item {
-    /// No path leads there.
-    NotReached,
-    /// What is known of a register or of eight bytes of the stack.
-    Known { location: Location, fact: Fact },
-    /// What paths that join there say of one, where it isn't the same.
-    Differs(Differing),
-    /// How many frames the instruction may take, of how many that the rest may take from there on.
-    Frames { cost: u32, reserve: u32 },
-}
-
-impl fmt::Display for Item {
-    fn fmt<W: fmt::Write>(&self, f: &mut fmt::Formatter<W>) -> fmt::Result {
-        match self {
-            Item::NotReached => write!(f, "not reached"),
-            Item::Known {
-                location,
-                fact: Fact::Register(None),
-            } => write!(f, "{location} unset"),
-            Item::Known { location, fact } => write!(f, "{location} = {fact}"),
-            Item::Differs(differing) => write!(f, "{differing}"),
-            Item::Frames { cost, reserve } => write!(f, "frames {cost} of {reserve}"),
-        }
-    }
 }

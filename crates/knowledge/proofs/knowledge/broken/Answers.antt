@@ -1,8 +1,8 @@
 use Rattle.std.proofs.Common.{IfSome, subst}
 use Rattle.bpf_decode.specs.Text.{IsInstruction}
 use Rattle.verifier_kinds.specs.Descriptions.{IsDescription}
-use Rattle.listing.proofs.Read.{known_instruction, known_description}
-use Rattle.listing.proofs.knowledge.broken.Goals as goal
+use Rattle.knowledge.proofs.Read.{known_instruction, known_description}
+use Rattle.knowledge.proofs.knowledge.broken.Goals as goal
 
 pub flow-requires-clause-instruction : goal.flow-requires-clause-instruction
 flow-requires-clause-instruction c =

@@ -1,7 +1,7 @@
 use Rattle.std.proofs.Common.{ℕ, IfNone, subst}
 use Rattle.verifier.specs.Subject.{Subject}
 use Rattle.verifier.specs.Table.{tight_table, Breaks}
-use Rattle.listing.proofs.knowledge.Knowledge.breaks.Goals as goal
+use Rattle.knowledge.proofs.knowledge.Knowledge.breaks.Goals as goal
 
 pub returns-clause-none : goal.returns-clause-none
 returns-clause-none c =

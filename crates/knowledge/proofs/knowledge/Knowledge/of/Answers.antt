@@ -1,8 +1,8 @@
 use Rattle.std.proofs.Common.{◌≡◌, subst, arith}
 use Rattle.bpf_decode.specs.Text.{IsWellFormed, slots_of}
 use Rattle.verifier.specs.Subject.{Subject}
-use Rattle.listing.proofs.Flowed.{flowed_all}
-use Rattle.listing.proofs.knowledge.Knowledge.of.Goals as goal
+use Rattle.knowledge.proofs.Flowed.{flowed_all}
+use Rattle.knowledge.proofs.knowledge.Knowledge.of.Goals as goal
 
 pub invariant_of-result : goal.invariant_of-result
 invariant_of-result c =

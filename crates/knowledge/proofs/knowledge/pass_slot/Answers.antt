@@ -1,5 +1,5 @@
-use Rattle.listing.proofs.Flowed.{read_instruction, passed_over}
-use Rattle.listing.proofs.knowledge.pass_slot.Goals as goal
+use Rattle.knowledge.proofs.Flowed.{read_instruction, passed_over}
+use Rattle.knowledge.proofs.knowledge.pass_slot.Goals as goal
 
 pub leads-onward-requires-clause-instruction : goal.leads-onward-requires-clause-instruction
 leads-onward-requires-clause-instruction c =

@@ -1,5 +1,5 @@
-use Rattle.listing.specs.Knowledge.{HasFlowed}
-use Rattle.listing.proofs.knowledge.Knowledge.of.Given as goal
+use Rattle.knowledge.specs.Knowledge.{HasFlowed}
+use Rattle.knowledge.proofs.knowledge.Knowledge.of.Given as goal
 
 abbrev pub invariant-loop-slot : goal.invariant-loop-slot
 invariant-loop-slot l = HasFlowed l.candidate l.slots.items l.slot

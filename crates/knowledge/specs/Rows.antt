@@ -1,7 +1,7 @@
 -- The rows of a listing.
 use Rattle.std.specs.Prelude.{◌≡◌, ℕ, ◌+◌, ◌≤◌, List, [], ◌∷◌}
-use Rattle.listing.specs.declared.rows.Row.{Row}
-use Rattle.listing.specs.declared.rows.Row.TheVariants.{Instruction, SecondHalf, Folded}
+use Rattle.knowledge.specs.declared.rows.Row.{Row}
+use Rattle.knowledge.specs.declared.rows.Row.TheVariants.{Instruction, SecondHalf, Folded}
 
 -- the first slot of a row
 abbrev pub first_slot : Row → ℕ

@@ -1,7 +1,7 @@
 use Rattle.std.proofs.Common.{IfSome, subst}
 use Rattle.bpf_decode.specs.Text.{IsInstruction}
-use Rattle.listing.proofs.Flowed.{onward_next, onward_jump}
-use Rattle.listing.proofs.knowledge.leads.Goals as goal
+use Rattle.knowledge.proofs.Flowed.{onward_next, onward_jump}
+use Rattle.knowledge.proofs.knowledge.leads.Goals as goal
 
 pub returns-in-Ok-clause-next : goal.returns-in-Ok-clause-next
 returns-in-Ok-clause-next c =

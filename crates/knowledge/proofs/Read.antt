@@ -11,8 +11,8 @@ use Rattle.verifier.specs.Pass.{flow_in, targets_in}
 use Rattle.verifier.proofs.Tables.{IsDescription-incoming}
 use Rattle.verifier.proofs.Passes.{described_read}
 use Rattle.verifier.proofs.Tight.{tight_is_tight}
-use Rattle.listing.specs.Knowledge.{IsKnowledge}
-use Rattle.listing.proofs.Flowed.{tight_instruction}
+use Rattle.knowledge.specs.Knowledge.{IsKnowledge}
+use Rattle.knowledge.proofs.Flowed.{tight_instruction}
 
 -- what an index reads of the table
 known_at : (p : Subject) (table : Table) (slot : ℕ) (x : Option Description) → slot < slots_of p.text → IsKnowledge p table → x ≡ get_or table slot x → described (tight_table p) slot ≡ x

@@ -1,5 +1,5 @@
-use Rattle.listing.proofs.Read.{known_instruction, known_description, flows_known}
-use Rattle.listing.proofs.knowledge.leads_on.Goals as goal
+use Rattle.knowledge.proofs.Read.{known_instruction, known_description, flows_known}
+use Rattle.knowledge.proofs.knowledge.leads_on.Goals as goal
 
 pub leads-requires-clause-instruction : goal.leads-requires-clause-instruction
 leads-requires-clause-instruction c =

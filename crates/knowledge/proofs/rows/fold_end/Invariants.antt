@@ -1,5 +1,5 @@
 use Rattle.std.proofs.Common.{◌<◌, ◌≤◌, length}
-use Rattle.listing.proofs.rows.fold_end.Given as goal
+use Rattle.knowledge.proofs.rows.fold_end.Given as goal
 
 abbrev pub invariant-loop-slot : goal.invariant-loop-slot
 invariant-loop-slot l = (l.first ≤ l.last) × (l.last < length l.slots)

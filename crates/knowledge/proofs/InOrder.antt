@@ -1,7 +1,7 @@
 -- Rows that are put one after the other.
 use Rattle.std.proofs.Common.{arith, ◌≡◌, ℕ, ◌+◌, ◌≤◌, List, [], ◌∷◌, ◌++◌, refl, sym, ◌∙◌}
-use Rattle.listing.specs.declared.rows.Row.{Row}
-use Rattle.listing.specs.Rows.{first_slot, last_slot, AreRows}
+use Rattle.knowledge.specs.declared.rows.Row.{Row}
+use Rattle.knowledge.specs.Rows.{first_slot, last_slot, AreRows}
 
 -- a row that begins where the others end
 pub pushed_row : (rows : List Row) (begin middle : ℕ) (row : Row) → AreRows rows begin middle
