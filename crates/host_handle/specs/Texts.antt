@@ -9,7 +9,7 @@ use Rattle.host_types.specs.Refusals.{fault_number}
 use Rattle.verifier.specs.Subject.{Subject, IsContextSize}
 use Rattle.verifier.specs.Verified.{AreShapes}
 use Rattle.lowering.specs.declared.rewrite.NotLowered.{NotLowered}
-use Rattle.lowering.specs.declared.stop.Stop.TheVariants as stop
+use Rattle.loop_copies.specs.declared.stop.Stop.TheVariants as stop
 use Rattle.lowering.specs.Laws.{EndAlike, KeepsFaultless}
 use Rattle.lowering.specs.Lowering.{VerifierAccepts, IsRefusedBy, IsLowered}
 use Rattle.host_calls.specs.Programs.{IsVerdict, subject_for}

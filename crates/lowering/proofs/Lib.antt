@@ -2,4 +2,3 @@ pub mod Moved
 pub mod Steps
 pub mod Running
 pub mod Refusals
-pub mod Targets

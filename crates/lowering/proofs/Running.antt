@@ -12,7 +12,8 @@ use Rattle.bpf_decode.specs.Text.{insn_at, width_at, IsInstruction}
 use Rattle.insn_alu.specs.Comparisons.{holds}
 use Rattle.interp.specs.Machine.{MachineState, Outcome, Next, Exits, start_state, register, operand, fallen, at_slot, jumped, step_alu, step_load, step_store, step_load_immediate, step_call, step_branch, step_exit, step_by, step}
 use Rattle.interp.specs.Runs.{Runs}
-use Rattle.lowering.specs.Covering.{falls_through, slot_numbered, slot_from, jump_by, jump_from, LeadAlike, IsCopy, IsInsertedJump, IsCovering}
+use Rattle.loop_copies.specs.Slots.{falls_through, slot_numbered, slot_from, jump_by, jump_from}
+use Rattle.lowering.specs.Covering.{LeadAlike, IsCopy, IsInsertedJump, IsCovering}
 use Rattle.lowering.specs.Laws.{ComesTo, Ends, at_origin, CoveringEndsAlike, StatesHaveOrigins, FailuresHaveOrigins, FailuresAreKept, CoveringKeepsFaultless}
 use Rattle.lowering.proofs.Moved.{moved, IsSlotless, alu_slotless, load_slotless, load_immediate_slotless, store_slotless, call_slotless}
 use Rattle.lowering.proofs.Steps.{outcome_at, by, step_is, operation_here, same_operation, copy_steps}

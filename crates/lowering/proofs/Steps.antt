@@ -15,7 +15,8 @@ use Rattle.bpf_decode.specs.Opcodes.{operation_of, distance_of, sign_extended}
 use Rattle.bpf_decode.specs.Text.{insn_at, slots_of, width_at, IsInstruction}
 use Rattle.insn_alu.specs.Comparisons.{holds}
 use Rattle.interp.specs.Machine.{MachineState, Outcome, Next, Exits, register, operand, fallen, at_slot, jumped, step_alu, step_load, step_store, step_load_immediate, step_call, step_branch, step_exit, operation_at, step_by, step}
-use Rattle.lowering.specs.Covering.{without_distance, undirected, falls_through, slot_numbered, slot_from, jump_by, jump_from, LeadAlike, IsCopy}
+use Rattle.loop_copies.specs.Slots.{falls_through, slot_numbered, slot_from, jump_by, jump_from}
+use Rattle.lowering.specs.Covering.{without_distance, undirected, LeadAlike, IsCopy}
 use Rattle.lowering.specs.Laws.{at_origin}
 use Rattle.lowering.proofs.Moved.{moved, then_alike, then_same, IsSlotless, alu_slotless, load_slotless, load_immediate_slotless, store_slotless, call_slotless}
 

@@ -1,12 +1,13 @@
 -- Lowered texts: each instruction is a copy of one of an original text, or a jump that was inserted.
-use Rattle.std.specs.Prelude.{◌≡◌, ℕ, ◌+◌, ℤ, pos, negsuc, ◌+ℤ◌, Bool, true, false, ◌⊎◌, List, length, slice_index, Option, Some, None}
+use Rattle.std.specs.Prelude.{◌≡◌, ℕ, ◌+◌, pos, true, ◌⊎◌, List, length, slice_index, Option, Some, None}
 use Rattle.bpf_decode.specs.declared.insn.Insn.{Insn}
 use Rattle.bpf_decode.specs.declared.operation.Distance.{Distance}
 use Rattle.bpf_decode.specs.declared.operation.Distance.TheVariants.{Offset, Imm}
 use Rattle.bpf_decode.specs.declared.operation.Operation.{Operation}
-use Rattle.bpf_decode.specs.declared.operation.Operation.TheVariants.{Jump, Branch, Exit}
-use Rattle.bpf_decode.specs.Opcodes.{operation_of, distance_of}
+use Rattle.bpf_decode.specs.declared.operation.Operation.TheVariants.{Jump, Branch}
+use Rattle.bpf_decode.specs.Opcodes.{operation_of}
 use Rattle.bpf_decode.specs.Text.{insn_at, slots_of, width_at, IsInstruction}
+use Rattle.loop_copies.specs.Slots.{falls_through, jump_from}
 
 -- an instruction without the distance of its jump
 abbrev pub without_distance : Option Operation → Insn → Insn
@@ -18,32 +19,6 @@ without_distance operation insn = insn
 -- what two instructions have in common that differ at most in the distance of their jump
 unfoldable pub undirected : Insn → Insn
 undirected insn = without_distance (operation_of insn.opcode) insn
-
--- from an operation a run may go on to the next instruction
-abbrev pub falls_through : Option Operation → Bool
-falls_through None = false
-falls_through (Some (Jump distance)) = false
-falls_through (Some Exit) = false
-falls_through operation = true
-
--- the slot with a number, if that isn't before the text
-abbrev pub slot_numbered : ℤ → Option ℕ
-slot_numbered (pos slot) = Some slot
-slot_numbered (negsuc n) = None
-
--- the slot at a distance from the instruction after a slot (RFC 9669, section 4.3)
-abbrev pub slot_from : List ℕ → ℕ → ℤ → Option ℕ
-slot_from text slot distance = slot_numbered (pos (slot + width_at text slot) +ℤ distance)
-
--- the slot to which an operation at a slot may jump
-abbrev pub jump_by : List ℕ → ℕ → Option Operation → Option ℕ
-jump_by text slot (Some (Jump distance)) = slot_from text slot (distance_of distance (insn_at text slot))
-jump_by text slot (Some (Branch comparison width source)) = slot_from text slot (insn_at text slot).offset
-jump_by text slot operation = None
-
--- the slot to which the instruction at a slot may jump
-unfoldable pub jump_from : List ℕ → ℕ → Option ℕ
-jump_from text slot = jump_by text slot (operation_of (insn_at text slot).opcode)
 
 -- An instruction of a lowered text stands for a slot of the original: `origins` has that slot at the
 -- instruction's own.

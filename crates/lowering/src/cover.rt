@@ -3,10 +3,11 @@
 ghost use Rattle.std.specs.Prelude.{◌≡◌, ◌↔◌, ◌<◌, ◌+◌, ℕ, true, IsTrue, slice_index};
 ghost use Rattle.bpf_decode.specs.Opcodes.{operation_of};
 ghost use Rattle.bpf_decode.specs.Text.{slots_of, insn_at, width_at, is_instruction, IsInstruction};
-ghost use Rattle.lowering.specs.Covering.{undirected, falls_through, LeadAlike, HasOrigin, IsCopy, IsInsertedJump, IsCoveredAt, IsCovering};
+ghost use Rattle.loop_copies.specs.Slots.{falls_through};
+ghost use Rattle.lowering.specs.Covering.{undirected, LeadAlike, HasOrigin, IsCopy, IsInsertedJump, IsCoveredAt, IsCovering};
 
-use crate::slots::{begins, falls_through, jump_from, slot_after};
 use bpf_decode::{Distance, Insn, Operation, Program};
+use loop_copies::{begins, falls_through, jump_from, slot_after};
 
 /// Whether a lowered text covers the original: it begins with an instruction that stands for slot 0, and each of its
 /// instructions is a copy of the original's at its origin, or an inserted jump to such a copy. `origins` has for each

@@ -4,21 +4,11 @@
 #![tactic(auto)]
 
 mod accept;
-mod blocks;
 mod cover;
-mod deciding_registers;
-mod emit;
-mod flows;
 mod laws;
-mod order;
 mod rewrite;
-mod row;
-mod slots;
-mod stop;
-mod values;
-mod walk;
 
 pub use cover::covers;
 pub use laws::covering_keeps_runs;
+pub use loop_copies::Stop;
 pub use rewrite::{Lowered, NotLowered, lower};
-pub use stop::Stop;

@@ -2,24 +2,16 @@ ghost use Rattle.std.specs.Prelude.{◌≡◌, ◌<◌, ◌⊎◌, ◌↔◌, �
 ghost use Rattle.bpf_decode.specs.Text.{out_of_memory};
 ghost use Rattle.verifier.specs.Subject.{IsContextSize};
 ghost use Rattle.verifier.specs.Verified.{AreShapes};
-ghost use Rattle.lowering.specs.declared.stop.Stop.TheVariants.{OutOfMemory};
+ghost use Rattle.loop_copies.specs.declared.stop.Stop.TheVariants.{OutOfMemory};
 ghost use Rattle.lowering.specs.Covering.{IsCovering};
 ghost use Rattle.lowering.specs.Laws.{EndAlike, KeepsFaultless};
 ghost use Rattle.lowering.specs.Lowering.{subject_with, VerifierAccepts, IsRefusedBy, IsLeftAsItIs, IsLowered};
 
 use crate::accept::accept;
-use crate::blocks::Blocks;
 use crate::cover::covers;
-use crate::deciding_registers::DecidingRegisters;
-use crate::emit::emit;
-use crate::flows::Flows;
-use crate::order::{Position, in_loop_order};
-use crate::row::Row;
-use crate::stop::Stop;
-use crate::values::Keeping;
-use crate::walk::Walk;
 use bpf_decode::{Program, decode};
 use host_types::{Refused, Shape};
+use loop_copies::{Keeping, Parts, Stop};
 use std::alloc::{AllocError, Global};
 
 /// A lowered text, and for each of its slots the slot of the text for which it stands.
@@ -116,14 +108,6 @@ fn own_slots(alloc: Global, slots: u16) -> Result<Vec<u16>, AllocError>
     Ok(own)
 }
 
-/// What a text's copies are made of: its blocks, an order of them, and what is known along them.
-#[derive(Drop)]
-struct Parts {
-    blocks: Blocks,
-    order: Vec<Position>,
-    flows: Flows,
-}
-
 /// The text with its blocks in another order, and with copies of its loops: one for each turn, or, where that doesn't
 /// serve, one for each of the constants with which a block is reached.
 fn rewritten(
@@ -151,11 +135,7 @@ fn rewritten(
     ) {
         Ok(lowered) => Ok(lowered),
         Err(stop) => {
-            let by_constants = Keeping::Constants(DecidingRegisters::of(
-                alloc,
-                &program,
-                &parts.blocks,
-            )?);
+            let by_constants = parts.by_constants(alloc, &program)?;
             match copied(
                 alloc,
                 text,
@@ -169,37 +149,6 @@ fn rewritten(
                 Err(_) => Err(stop),
             }
         }
-    }
-}
-
-impl Parts {
-    /// The parts of a text.
-    fn of(
-        alloc: Global,
-        text: &[u8],
-        program: &Program,
-        shapes: &[Option<Shape>],
-        context_size: u32,
-    ) -> Result<Parts, Stop>
-        requires shapes { AreShapes shapes.now }
-        requires context { IsContextSize context_size }
-    {
-        let blocks = Blocks::of(alloc, program)?;
-        let order = in_loop_order(alloc, &blocks)?;
-        let flows = Flows::of(alloc, text, program, shapes, context_size)?;
-        Ok(Parts {
-            blocks,
-            order,
-            flows,
-        })
-    }
-
-    /// The row of the copies that are reached, and what they lead to.
-    fn row(&self, alloc: Global, keeping: &Keeping) -> Result<Row, Stop> {
-        let walk = Walk::begin(alloc, &self.blocks, &self.order)?;
-        let mut row = walk.pass(&self.blocks, &self.flows, &self.order, keeping)?;
-        row.finish(&self.blocks)?;
-        Ok(row)
     }
 }
 
@@ -218,10 +167,7 @@ fn copied(
     ensures covers { IfOk result (λ lowered. IsCovering program.now lowered.text.items lowered.origins.items) }
     ensures accepted { IfOk result (λ lowered. VerifierAccepts (subject_with lowered.text.items shapes.now context_size)) }
 {
-    let row = parts.row(alloc, keeping)?;
-    let Some(emitted) = emit(alloc, &parts.blocks, text, &row)? else {
-        return Err(Stop::TooLong);
-    };
+    let emitted = parts.copies(alloc, text, keeping)?;
     let lowered = Lowered {
         text: emitted.text,
         origins: emitted.origins,

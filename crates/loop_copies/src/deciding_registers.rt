@@ -67,13 +67,13 @@ fn before_insn(insn: &Insn, after: Registers) -> Registers {
 
 /// The registers that decide something at the beginning of each block, by its slot.
 #[derive(Drop)]
-pub(crate) struct DecidingRegisters {
+pub struct DecidingRegisters {
     by_slot: Vec<Registers>,
 }
 
 impl DecidingRegisters {
     /// The deciding registers of the blocks of a text; all, if that takes too many rounds.
-    pub fn of(
+    pub(crate) fn of(
         alloc: Global,
         program: &Program,
         blocks: &Blocks,
@@ -101,7 +101,7 @@ impl DecidingRegisters {
     }
 
     /// The deciding registers at the beginning of the block at a slot.
-    pub fn at(&self, slot: u16) -> Registers {
+    pub(crate) fn at(&self, slot: u16) -> Registers {
         match self.by_slot.get(usize::from(slot)) {
             Some(registers) => *registers,
             None => 0,

@@ -12,7 +12,7 @@ pub(crate) struct Values {
 
 /// By what copies of blocks are kept apart.
 #[derive(Drop)]
-pub(crate) enum Keeping {
+pub enum Keeping {
     /// By nothing: a loop has one copy for each turn.
     Turns,
     /// By the constants in the registers that decide something.
@@ -83,7 +83,7 @@ impl Values {
 
 impl Keeping {
     /// By which values the copies of the block at a slot are kept apart.
-    pub fn values(&self, slot: u16, known: &Known) -> Values {
+    pub(crate) fn values(&self, slot: u16, known: &Known) -> Values {
         match self {
             Keeping::Turns => Values::NONE,
             Keeping::Constants(deciding) => Values::of(known, deciding.at(slot)),

@@ -1,5 +1,5 @@
 use Rattle.std.proofs.Common.{vec_len}
-use Rattle.lowering.proofs.order.Walk.leave.Given as goal
+use Rattle.loop_copies.proofs.order.Walk.leave.Given as goal
 
 abbrev pub decreases-loop-top : goal.decreases-loop-top
 decreases-loop-top l = vec_len l.self.path

@@ -3,19 +3,19 @@
 ghost use Rattle.std.specs.Prelude.{◌≡◌, ◌↔◌, ◌≤◌, ◌+◌, ◌+ℤ◌, pos, IsTrue};
 ghost use Rattle.bpf_decode.specs.Opcodes.{operation_of};
 ghost use Rattle.bpf_decode.specs.Text.{width_at, IsInstruction};
-ghost use Rattle.lowering.specs.Covering.{falls_through, jump_from, slot_numbered};
+ghost use Rattle.loop_copies.specs.Slots.{falls_through, jump_from, slot_numbered};
 
 use bpf_decode::{Insn, Operation, Program};
 
 /// Whether an instruction begins at a slot.
-pub(crate) fn begins(program: &Program, slot: u32) -> bool
+pub fn begins(program: &Program, slot: u32) -> bool
     ensures { IsTrue result ↔ IsInstruction program.now slot }
 {
     slot < program.slots() && program.begins(slot)
 }
 
 /// Whether a run may go on from an instruction to the next one.
-pub(crate) fn falls_through(insn: &Insn) -> bool
+pub fn falls_through(insn: &Insn) -> bool
     ensures { result ≡ falls_through (operation_of insn.now.opcode) }
 {
     !matches!(
@@ -25,8 +25,8 @@ pub(crate) fn falls_through(insn: &Insn) -> bool
 }
 
 /// The slot to which the instruction at a slot may jump, if it is no number below 0.
-#[tactic(auto, unfolding(crate::specs::Covering::jump_from))]
-pub(crate) fn jump_from(program: &Program, slot: u32) -> Option<u32>
+#[tactic(auto, unfolding(crate::specs::Slots::jump_from))]
+pub fn jump_from(program: &Program, slot: u32) -> Option<u32>
     requires { IsInstruction program.now slot }
     ensures { result ≡ jump_from program.now slot }
 {
@@ -41,7 +41,7 @@ pub(crate) fn jump_from(program: &Program, slot: u32) -> Option<u32>
 
 /// The slot after the instruction at a slot.
 #[tactic(auto, unfolding(bpf_decode::specs::Text::insn_at))]
-pub(crate) fn slot_after(program: &Program, slot: u32) -> u32
+pub fn slot_after(program: &Program, slot: u32) -> u32
     requires { IsInstruction program.now slot }
     ensures slot { result ≡ slot + width_at program.now slot }
     ensures small { result ≤ 4097 }

@@ -1,5 +1,5 @@
 use Rattle.std.proofs.Common.{◌+◌, ◌*◌}
-use Rattle.lowering.proofs.order.Walk.+walk.Given as goal
+use Rattle.loop_copies.proofs.order.Walk.+walk.Given as goal
 
 abbrev pub decreases-least : goal.decreases-least
 decreases-least l = 2 * l.depth

@@ -17,7 +17,7 @@ const JA32: u8 = 0x06;
 /// A text that is written, with the slot of the original for which each of its slots stands, and the slot at which
 /// each item of its row begins.
 #[derive(Drop)]
-pub(crate) struct Emitted {
+pub struct Emitted {
     pub text: Vec<u8>,
     pub origins: Vec<u16>,
     starts: Vec<u16>,
@@ -51,15 +51,15 @@ fn starts(alloc: Global, blocks: &Blocks, row: &Row) -> Result<Option<Vec<u16>>,
     Ok(Some(starts))
 }
 
-/// The text of a row; `None` if it has more slots than a text may have.
+/// The text of a row, unless it has more slots than a text may have.
 pub(crate) fn emit(
     alloc: Global,
     blocks: &Blocks,
     text: &[u8],
     row: &Row,
-) -> Result<Option<Emitted>, Stop> {
+) -> Result<Emitted, Stop> {
     let Some(starts) = starts(alloc, blocks, row)? else {
-        return Ok(None);
+        return Err(Stop::TooLong);
     };
     let mut emitted = Emitted {
         text: Vec::new(alloc),
@@ -79,7 +79,7 @@ pub(crate) fn emit(
             Item::Jump { slot, to } => emitted.jump(emitted.start(Some(to)), slot)?,
         }
     }
-    Ok(Some(emitted))
+    Ok(emitted)
 }
 
 impl Emitted {
