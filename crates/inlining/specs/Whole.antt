@@ -1,7 +1,7 @@
 -- Texts that call no functions.
 use Rattle.std.specs.Prelude.{◌≡◌, ◌≢◌, ℕ, ◌+◌, ◌*◌, ◌/◌, ◌%◌, ◌<◌, ◌≤◌, ◌⊎◌, List, [], length, slice_index, slice_get, Option, Some, None}
-use Rattle.inlining.specs.declared.whole.Inlined.{Inlined}
-use Rattle.inlining.specs.declared.order.Function.{Function}
+use Rattle.call_copies.specs.declared.inlined.Inlined.{Inlined}
+use Rattle.call_copies.specs.declared.order.Function.{Function}
 
 -- a slot that isn't a call (0x85) with source 1
 abbrev pub CallsNoFunction : List ℕ → ℕ → Type 0

@@ -1,16 +1,8 @@
-//! One text of a function and of those that it calls: each call is replaced by a copy of the called function's text (the kernel's
-//! docs/bpf/standardization/abi.rst: R1 to R5 are arguments, R6 to R9 are kept, each call has a stack of its own).
+//! One text of a function and of those that it calls, which calls no function: `call_copies` puts a copy of the called function's text
+//! at each call, and here it is tested what is promised of that.
 #![tactic(auto)]
 
-mod copy;
-mod expansion;
-mod frame;
-mod instruction;
-mod liveness;
-mod order;
-mod stop;
 mod whole;
 
-pub use order::{Call, Function, inlined};
-pub use stop::{NotInlined, Stop};
-pub use whole::{Inlined, Origin};
+pub use call_copies::{Call, Function, Inlined, NotInlined, Origin, Stop};
+pub use whole::inlined;

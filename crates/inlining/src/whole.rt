@@ -1,81 +1,71 @@
-//! A text in which copies stand for calls, and the slots for which its slots stand.
+//! Texts that call no functions, each of whose slots has an origin.
 
 ghost use Rattle.std.specs.Prelude.{◌≡◌, ◌↔◌, IfOk, IsTrue};
-ghost use Rattle.inlining.specs.Whole.{IsInlined, IsWholeText};
+ghost use Rattle.inlining.specs.Whole.{IsInlined, IsWholeText, first_text};
 
-use crate::expansion::MOST_SLOTS;
-use crate::instruction::{CALL, Insn};
-use crate::stop::NotInlined;
+use call_copies::{
+    CALL, Function, Inlined, MOST_SLOTS, NotInlined, Origin, Stop, with_copies_at_calls,
+};
 use std::alloc::Global;
 
-/// A slot of a function, by its number.
-#[derive(Clone, Copy, PartialEq, Eq)]
-pub struct Origin {
-    pub function: usize,
-    pub slot: usize,
+/// One text of function 0 and of those that it calls. It is that of function 0 itself where that calls none.
+pub fn inlined(alloc: Global, functions: &[Function<'_>]) -> Result<Inlined, NotInlined>
+    ensures whole { IfOk result IsInlined }
+    ensures unchanged { IfOk result (λ inlined. IsWholeText (first_text functions.now) → inlined.text.items ≡ first_text functions.now) }
+{
+    let text = text_of_first(functions);
+    if is_whole(text) {
+        return unchanged(alloc, text);
+    }
+    tested(with_copies_at_calls(alloc, functions)?)
 }
 
-/// A text, and of each of its slots the slot of a function for which it stands: of those that save and restore registers around a
-/// copy it is that of the call.
-#[derive(Drop)]
-pub struct Inlined {
-    pub text: Vec<u8>,
-    pub origins: Vec<Origin>,
+/// The text of function 0, or none if there is none.
+fn text_of_first<'a>(functions: &[Function<'a>]) -> &'a [u8]
+    ensures { result.now ≡ first_text functions.now }
+{
+    match functions.first() {
+        Some(first) => first.text,
+        None => &[],
+    }
 }
 
-impl Inlined {
-    pub(crate) fn new(alloc: Global) -> Self {
-        Inlined {
-            text: Vec::new(alloc),
-            origins: Vec::new(alloc),
-        }
+/// The text of a function that calls none, as it is.
+fn unchanged(alloc: Global, text: &[u8]) -> Result<Inlined, NotInlined>
+    requires { IsWholeText text.now }
+    ensures same { IfOk result (λ inlined. inlined.text.items ≡ text.now) }
+    ensures whole { IfOk result IsInlined }
+{
+    let mut origins = Vec::new(alloc);
+    for slot in 0..text.len() / 8 {
+        origins.push(Origin { function: 0, slot })?;
     }
+    Ok(Inlined {
+        text: Vec::from_slice(alloc, text)?,
+        origins,
+    })
+}
 
-    /// The text of a function that calls none, as it is.
-    pub(crate) fn unchanged(alloc: Global, text: &[u8]) -> Result<Self, NotInlined>
-        requires { IsWholeText text.now }
-        ensures same { IfOk result (λ inlined. inlined.text.items ≡ text.now) }
-        ensures whole { IfOk result IsInlined }
-    {
-        let mut origins = Vec::new(alloc);
-        for slot in 0..text.len() / 8 {
-            origins.push(Origin { function: 0, slot })?;
-        }
-        Ok(Inlined {
-            text: Vec::from_slice(alloc, text)?,
-            origins,
-        })
+/// A text with copies, if it calls no function.
+fn tested(inlined: Inlined) -> Result<Inlined, NotInlined>
+    ensures { IfOk result IsInlined }
+{
+    if is_inlined(&inlined) {
+        Ok(inlined)
+    } else {
+        Err(Stop::UnknownCall.at(0))
     }
+}
 
-    /// How many slots there are.
-    pub(crate) fn slots(&self) -> usize {
-        self.origins.len()
-    }
-
-    /// Appends a slot that stands for another.
-    pub(crate) fn push(&mut self, insn: &Insn, origin: Origin) -> Result<(), NotInlined> {
-        self.text.extend_from_slice(&insn.bytes())?;
-        self.origins.push(origin)?;
-        Ok(())
-    }
-
-    /// Appends all slots of another.
-    pub(crate) fn append(&mut self, other: &Inlined) -> Result<(), NotInlined> {
-        self.text.extend_from_slice(other.text.as_slice())?;
-        self.origins.extend_from_slice(other.origins.as_slice())?;
-        Ok(())
-    }
-
-    /// Whether the text is whole, and each of its slots has an origin.
-    pub(crate) fn is_whole(&self) -> bool
-        ensures { IsTrue result → IsInlined self.now }
-    {
-        is_whole(self.text.as_slice()) && self.origins.len() == self.text.len() / 8
-    }
+/// Whether a text is whole, and each of its slots has an origin.
+fn is_inlined(inlined: &Inlined) -> bool
+    ensures { IsTrue result → IsInlined inlined.now }
+{
+    is_whole(inlined.text.as_slice()) && inlined.origins.len() == inlined.text.len() / 8
 }
 
 /// Whether a text has whole slots, at most 4096 of them, and no call of a function.
-pub(crate) fn is_whole(text: &[u8]) -> bool
+fn is_whole(text: &[u8]) -> bool
     ensures { IsTrue result ↔ IsWholeText text.now }
 {
     if text.len() % 8 != 0 || text.len() > 8 * MOST_SLOTS {

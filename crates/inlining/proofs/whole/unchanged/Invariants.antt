@@ -1,5 +1,5 @@
 use Rattle.std.proofs.Common.{◌≡◌, length}
-use Rattle.inlining.proofs.whole.Inlined.unchanged.Given as goal
+use Rattle.inlining.proofs.whole.unchanged.Given as goal
 
 abbrev pub invariant-loop-slot : goal.invariant-loop-slot
 invariant-loop-slot l = length l.origins.items ≡ l.slot

@@ -5,7 +5,7 @@ use crate::stop::{NotInlined, Stop};
 use std::alloc::Global;
 
 /// The most slots of a text.
-pub(crate) const MOST_SLOTS: usize = 4096;
+pub const MOST_SLOTS: usize = 4096;
 
 /// Where the slots of a text begin in a new one, and where it ends.
 #[derive(Drop)]

@@ -35,11 +35,27 @@ pub enum Stop {
 
 impl Stop {
     /// The stop at a slot of a function that isn't numbered yet.
-    pub(crate) fn at(self, slot: usize) -> NotInlined {
+    pub fn at(self, slot: usize) -> NotInlined {
         NotInlined {
             function: 0,
             slot,
             stop: self,
+        }
+    }
+}
+
+impl NotInlined {
+    /// The same of a function with a number.
+    pub(crate) fn in_function(self, function: usize) -> Self {
+        let NotInlined {
+            function: _,
+            slot,
+            stop,
+        } = self;
+        NotInlined {
+            function,
+            slot,
+            stop,
         }
     }
 }

@@ -1,9 +1,9 @@
 //! A copy of a function's text where it is called: its stack lies below that of the caller, and it ends where the copy ends.
 
 use crate::expansion::{Begins, offset_to};
+use crate::inlined::{Inlined, Origin};
 use crate::instruction::{FRAME_POINTER, Insn};
 use crate::stop::{NotInlined, Stop};
-use crate::whole::{Inlined, Origin};
 use std::alloc::Global;
 
 /// A copy of a text without calls of functions, whose stack lies so many bytes lower. Its exits lead to its end.

@@ -9,7 +9,8 @@ const WIDE: u8 = 0x18;
 
 const EXIT: u8 = 0x95;
 
-pub(crate) const CALL: u8 = 0x85;
+/// The opcode of a call.
+pub const CALL: u8 = 0x85;
 
 const JA: u8 = 0x05;
 
