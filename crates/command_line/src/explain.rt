@@ -1,10 +1,10 @@
 //! The words of `explain`.
 
 use crate::{
-    Asked, VERSION, WrongWords, context, hex_or_file, printed_of, said_of, shapes, text_asked,
-    usage,
+    Asked, Parsed, VERSION, WrongWords, context, flag, option, parse, printed_of, required,
+    said_of, shapes, usage,
 };
-use clap::{Arg, ArgAction, Command};
+use clap::Command;
 use std::alloc::{AllocError, Global};
 
 /// The program's name.
@@ -32,13 +32,10 @@ pub fn explained_of<'a>(
     alloc: Global,
     words: &'a [String],
 ) -> Result<Asked<ToExplain<'a>>, WrongWords> {
-    let explain = command(alloc).map_err(WrongWords::OutOfMemory)?;
-    let matches = match explain.try_get_matches_from(words) {
-        Ok(matches) => matches,
-        Err(error) => {
-            if let Some(text) = text_asked(alloc, &error)? {
-                return Ok(Asked::Text(text));
-            }
+    let matches = match parse(alloc, command(alloc), words)? {
+        Parsed::Matches(matches) => matches,
+        Parsed::Text(text) => return Ok(Asked::Text(text)),
+        Parsed::Wrong => {
             let answered = printed_of(alloc, NAME, words).map_err(WrongWords::OutOfMemory)?;
             return Err(usage(said_of(alloc, command(alloc), answered.as_slice())));
         }
@@ -59,34 +56,23 @@ pub fn explained_of<'a>(
 }
 
 fn command<'a>(alloc: Global) -> Result<Command<'a>, AllocError> {
-    let section = Arg::new(alloc, "section")
-        .long("section")
-        .value_name("NAME")
-        .help("the section or the function, where an object file has several")
-        .action(ArgAction::Set);
-    let all = Arg::new(alloc, "all")
-        .long("all")
-        .help("shows all that is known at each slot")
-        .action(ArgAction::SetTrue);
-    let lower = Arg::new(alloc, "lower")
-        .long("lower")
-        .help("lowers the program first")
-        .action(ArgAction::SetTrue);
-    let html = Arg::new(alloc, "html")
-        .long("html")
-        .help("writes an HTML page")
-        .action(ArgAction::SetTrue);
     Command::new(alloc, NAME)
         .version(VERSION)
         .about("shows what the verifier knows at each instruction of a program")
-        .arg(hex_or_file(
+        .arg(required(
             alloc,
+            "HEX",
             "the program, as hex text, or @FILE: its bytes, hex text, or an object file",
         ))?
         .arg(shapes(alloc))?
         .arg(context(alloc))?
-        .arg(section)?
-        .arg(all)?
-        .arg(lower)?
-        .arg(html)
+        .arg(option(
+            alloc,
+            "section",
+            "NAME",
+            "the section or the function, where an object file has several",
+        ))?
+        .arg(flag(alloc, "all", "shows all that is known at each slot"))?
+        .arg(flag(alloc, "lower", "lowers the program first"))?
+        .arg(flag(alloc, "html", "writes an HTML page"))
 }

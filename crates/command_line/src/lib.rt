@@ -94,6 +94,32 @@ fn printed_of(alloc: Global, name: &str, words: &[String]) -> Result<Vec<String>
     Ok(answered)
 }
 
+/// What clap makes of words.
+#[derive(Drop)]
+enum Parsed<'a> {
+    Matches(ArgMatches<'a>),
+    /// The help or the version, for which they ask.
+    Text(String),
+    /// They make no request.
+    Wrong,
+}
+
+/// The words of a command, the program's name being the first of them.
+fn parse<'a>(
+    alloc: Global,
+    command: Result<Command<'a>, AllocError>,
+    words: &'a [String],
+) -> Result<Parsed<'a>, WrongWords> {
+    let command = command.map_err(WrongWords::OutOfMemory)?;
+    match command.try_get_matches_from(words) {
+        Ok(matches) => Ok(Parsed::Matches(matches)),
+        Err(error) => match text_asked(alloc, &error)? {
+            Some(text) => Ok(Parsed::Text(text)),
+            None => Ok(Parsed::Wrong),
+        },
+    }
+}
+
 /// What a command says of words that make no request, as they are printed: these make none either.
 fn said_of<'a>(
     alloc: Global,
@@ -139,16 +165,22 @@ fn check_of<'a>(alloc: Global, check: &ArgMatches<'a>) -> Result<Request<'a>, Wr
 }
 
 fn command<'a>(alloc: Global) -> Result<Command<'a>, AllocError> {
-    Command::new(alloc, NAME)
+    let host = Command::new(alloc, NAME)
         .about("runs eBPF programs of several tenants")
-        .subcommand_required(true)
-        .subcommand(of_file(
-            alloc,
-            "replay",
-            "applies the events of a host file in their order",
-        )?)?
-        .subcommand(of_file(alloc, "serve", "runs the tenants of a host file on threads")?)?
-        .subcommand(check(alloc)?)
+        .subcommand_required(true);
+    let replay = "applies the events of a host file in their order";
+    let serve = "runs the tenants of a host file on threads";
+    let host = with(host, of_file(alloc, "replay", replay))?;
+    let host = with(host, of_file(alloc, "serve", serve))?;
+    with(host, check(alloc))
+}
+
+/// A command with one more subcommand, if there is memory for that.
+fn with<'a>(
+    command: Command<'a>,
+    subcommand: Result<Command<'a>, AllocError>,
+) -> Result<Command<'a>, AllocError> {
+    command.subcommand(subcommand?)
 }
 
 /// What is done with a host file.
@@ -157,28 +189,22 @@ fn of_file<'a>(
     name: &'static str,
     about: &'static str,
 ) -> Result<Command<'a>, AllocError> {
-    let file = Arg::new(alloc, "FILE")
-        .help("the host file")
-        .required(true)
-        .action(ArgAction::Set);
-    Command::new(alloc, name).about(about).arg(file)
+    Command::new(alloc, name)
+        .about(about)
+        .arg(required(alloc, "FILE", "the host file"))
 }
 
 fn check<'a>(alloc: Global) -> Result<Command<'a>, AllocError> {
-    let hex = Arg::new(alloc, "HEX")
-        .help("the program, as hex text")
-        .required(true)
-        .action(ArgAction::Set);
     Command::new(alloc, "check")
         .about("verifies a program without running it")
-        .arg(hex)?
+        .arg(required(alloc, "HEX", "the program, as hex text"))?
         .arg(shapes(alloc))?
         .arg(context(alloc))
 }
 
-/// The program of a command line that takes files too.
-fn hex_or_file<'a>(alloc: Global, help: &'static str) -> Arg<'a> {
-    Arg::new(alloc, "HEX")
+/// A word that must be given.
+fn required<'a>(alloc: Global, name: &'static str, help: &'static str) -> Arg<'a> {
+    Arg::new(alloc, name)
         .help(help)
         .required(true)
         .action(ArgAction::Set)
@@ -194,9 +220,32 @@ fn shapes<'a>(alloc: Global) -> Arg<'a> {
 
 /// The context of a program.
 fn context<'a>(alloc: Global) -> Arg<'a> {
-    Arg::new(alloc, "context")
-        .long("context")
-        .value_name("N")
-        .help("the bytes of the context, 0 if it isn't given")
+    option(
+        alloc,
+        "context",
+        "N",
+        "the bytes of the context, 0 if it isn't given",
+    )
+}
+
+/// An option that has a value.
+fn option<'a>(
+    alloc: Global,
+    name: &'static str,
+    value: &'static str,
+    help: &'static str,
+) -> Arg<'a> {
+    Arg::new(alloc, name)
+        .long(name)
+        .value_name(value)
+        .help(help)
         .action(ArgAction::Set)
+}
+
+/// An option that has none.
+fn flag<'a>(alloc: Global, name: &'static str, help: &'static str) -> Arg<'a> {
+    Arg::new(alloc, name)
+        .long(name)
+        .help(help)
+        .action(ArgAction::SetTrue)
 }

@@ -1,10 +1,10 @@
 //! The words of `lower`.
 
 use crate::{
-    Asked, VERSION, WrongWords, context, hex_or_file, printed_of, said_of, shapes, text_asked,
-    usage,
+    Asked, Parsed, VERSION, WrongWords, context, flag, parse, printed_of, required, said_of,
+    shapes, usage,
 };
-use clap::{Arg, ArgAction, Command};
+use clap::Command;
 use std::alloc::{AllocError, Global};
 
 /// The program's name.
@@ -25,13 +25,10 @@ pub fn lowered_of<'a>(
     alloc: Global,
     words: &'a [String],
 ) -> Result<Asked<ToLower<'a>>, WrongWords> {
-    let lower = command(alloc).map_err(WrongWords::OutOfMemory)?;
-    let matches = match lower.try_get_matches_from(words) {
-        Ok(matches) => matches,
-        Err(error) => {
-            if let Some(text) = text_asked(alloc, &error)? {
-                return Ok(Asked::Text(text));
-            }
+    let matches = match parse(alloc, command(alloc), words)? {
+        Parsed::Matches(matches) => matches,
+        Parsed::Text(text) => return Ok(Asked::Text(text)),
+        Parsed::Wrong => {
             let answered = printed_of(alloc, NAME, words).map_err(WrongWords::OutOfMemory)?;
             return Err(usage(said_of(alloc, command(alloc), answered.as_slice())));
         }
@@ -49,18 +46,19 @@ pub fn lowered_of<'a>(
 }
 
 fn command<'a>(alloc: Global) -> Result<Command<'a>, AllocError> {
-    let stats = Arg::new(alloc, "stats")
-        .long("stats")
-        .help("tells the slots before and after, and the copies of each loop")
-        .action(ArgAction::SetTrue);
     Command::new(alloc, NAME)
         .version(VERSION)
         .about("makes a program with the same runs that the verifier accepts")
-        .arg(hex_or_file(
+        .arg(required(
             alloc,
+            "HEX",
             "the program, as hex text, or @FILE: its bytes or hex text",
         ))?
         .arg(shapes(alloc))?
         .arg(context(alloc))?
-        .arg(stats)
+        .arg(flag(
+            alloc,
+            "stats",
+            "tells the slots before and after, and the copies of each loop",
+        ))
 }

@@ -1,7 +1,9 @@
 //! The words of `merging`.
 
-use crate::{Asked, VERSION, WrongWords, printed_of, said_of, text_asked, usage};
-use clap::{Arg, ArgAction, Command};
+use crate::{
+    Asked, Parsed, VERSION, WrongWords, flag, parse, printed_of, required, said_of, usage,
+};
+use clap::Command;
 use std::alloc::{AllocError, Global};
 
 /// The program's name.
@@ -17,13 +19,10 @@ pub struct ToDraw<'a> {
 
 /// What the words of `merging` ask for, the program's name being the first of them.
 pub fn drawn_of<'a>(alloc: Global, words: &'a [String]) -> Result<Asked<ToDraw<'a>>, WrongWords> {
-    let merging = command(alloc).map_err(WrongWords::OutOfMemory)?;
-    let matches = match merging.try_get_matches_from(words) {
-        Ok(matches) => matches,
-        Err(error) => {
-            if let Some(text) = text_asked(alloc, &error)? {
-                return Ok(Asked::Text(text));
-            }
+    let matches = match parse(alloc, command(alloc), words)? {
+        Parsed::Matches(matches) => matches,
+        Parsed::Text(text) => return Ok(Asked::Text(text)),
+        Parsed::Wrong => {
             let answered = printed_of(alloc, NAME, words).map_err(WrongWords::OutOfMemory)?;
             return Err(usage(said_of(alloc, command(alloc), answered.as_slice())));
         }
@@ -38,17 +37,9 @@ pub fn drawn_of<'a>(alloc: Global, words: &'a [String]) -> Result<Asked<ToDraw<'
 }
 
 fn command<'a>(alloc: Global) -> Result<Command<'a>, AllocError> {
-    let file = Arg::new(alloc, "FILE")
-        .help("the host file")
-        .required(true)
-        .action(ArgAction::Set);
-    let svg = Arg::new(alloc, "svg")
-        .long("svg")
-        .help("writes the picture alone")
-        .action(ArgAction::SetTrue);
     Command::new(alloc, NAME)
         .version(VERSION)
         .about("shows as an HTML page what merging does over the events of a host file")
-        .arg(file)?
-        .arg(svg)
+        .arg(required(alloc, "FILE", "the host file"))?
+        .arg(flag(alloc, "svg", "writes the picture alone"))
 }

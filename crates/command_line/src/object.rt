@@ -1,6 +1,6 @@
 //! The words of `bpf_object`.
 
-use crate::{WrongWords, context, printed_of, said_of, usage};
+use crate::{WrongWords, context, flag, option, printed_of, required, said_of, usage};
 use clap::{Arg, ArgAction, ArgMatches, Command};
 use std::alloc::{AllocError, Global};
 use terminal_text::quoted;
@@ -91,15 +91,15 @@ fn number_of(alloc: Global, matches: &ArgMatches<'_>, option: &str) -> Result<u3
 }
 
 fn command<'a>(alloc: Global) -> Result<Command<'a>, AllocError> {
-    let file = Arg::new(alloc, "FILE")
-        .help("the object file, as clang -target bpf -c makes it")
-        .required(true)
-        .action(ArgAction::Set);
-    Command::new(alloc, NAME)
+    let object = Command::new(alloc, NAME)
         .about(
             "prints the events of a host file that load a program from an object file, or runs it",
         )
-        .arg(file)?
+        .arg(required(
+            alloc,
+            "FILE",
+            "the object file, as clang -target bpf -c makes it",
+        ))?
         .arg(option(
             alloc,
             "section",
@@ -118,8 +118,16 @@ fn command<'a>(alloc: Global) -> Result<Command<'a>, AllocError> {
             alloc,
             "maps",
             "prints the name and the shape V:E of each map",
-        ))?
-        .arg(run(alloc)?)
+        ))?;
+    with_run(object, run(alloc))
+}
+
+/// The command with the contexts of runs, if there is memory for that.
+fn with_run<'a>(
+    object: Command<'a>,
+    run: Result<Arg<'a>, AllocError>,
+) -> Result<Command<'a>, AllocError> {
+    object.arg(run?)
 }
 
 /// The contexts on which the program is run. Options that say how it is printed are of no use then.
@@ -135,26 +143,4 @@ fn run<'a>(alloc: Global) -> Result<Arg<'a>, AllocError> {
     .conflicts_with("as-is")?
     .conflicts_with("hex")?
     .conflicts_with("maps")
-}
-
-/// An option that has a value.
-fn option<'a>(
-    alloc: Global,
-    name: &'static str,
-    value: &'static str,
-    help: &'static str,
-) -> Arg<'a> {
-    Arg::new(alloc, name)
-        .long(name)
-        .value_name(value)
-        .help(help)
-        .action(ArgAction::Set)
-}
-
-/// An option that has none.
-fn flag<'a>(alloc: Global, name: &'static str, help: &'static str) -> Arg<'a> {
-    Arg::new(alloc, name)
-        .long(name)
-        .help(help)
-        .action(ArgAction::SetTrue)
 }
