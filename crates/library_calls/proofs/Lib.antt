@@ -3,3 +3,4 @@ mod Unnoticed
 mod Together
 pub mod Isolated
 pub mod Several
+pub mod Many

@@ -58,7 +58,7 @@ walks_together t (suc limit) x y x' y' reply other agree (next, (made, (served, 
     go_on t limit x' y' next later reply other made also (λ same one two. walks_together t limit next later x' y' reply other same one two)
     (event_together t (Step t) x y next later made also (own_name t) agree served was) goes on
 
-runs_together : (t k : ℕ) (context : List ℕ) (x y x' y' : System) (reply other : Reply) → AgreeOn t x y
+pub runs_together : (t k : ℕ) (context : List ℕ) (x y x' y' : System) (reply other : Reply) → AgreeOn t x y
     → RunsWhole t k context reply x x' → RunsWhole t k context other y y' → Alike t reply other x' y'
 runs_together t k context x y x' y' reply other agree (inl one) (inl two) = event_together t (Begin t k context) x y x' y' reply other (own_name t) agree (one.1, one.2, one.3) (two.1, two.2, two.3)
 runs_together t k context x y x' y' reply other agree (inl one) (inr (begun, served, steps)) =

@@ -1,5 +1,5 @@
 ghost use Rattle.library_calls.specs.Isolation.{CallsAreIsolated};
-ghost use Rattle.library_calls.specs.Several.{EventsAreCalls, ManyRunsAreCalls};
+ghost use Rattle.library_calls.specs.Several.{EventsAreCalls, ManyRunsAreCalls, ManyRunsAreIsolated};
 
 /// The calls on two handles are isolated, whose hosts agree on a tenant: where the calls for that tenant are the same in the same order,
 /// the replies to them are the same up to the first that says that frames or memory are short, whatever calls for others stand between
@@ -8,10 +8,15 @@ pub fn calls_are_isolated()
     ensures { CallsAreIsolated }
 {}
 
-/// A call that makes many runs does what as many calls of one run each do as it made. `calls_are_isolated` speaks of these; that it makes
-/// equally many beside other tenants isn't stated. A law about the definitions, too.
+/// A call that makes many runs does what as many calls of one run each do as it made. A law about the definitions, too.
 pub fn many_runs_are_calls()
     ensures { ManyRunsAreCalls }
+{}
+
+/// Such calls are isolated, too: on two hosts that agree on a tenant one of them is stopped since frames or memory are short, or both make as
+/// many runs, which return the same, and are stopped by the same reply, if by any. A law about the definitions.
+pub fn many_runs_are_isolated()
+    ensures { ManyRunsAreIsolated }
 {}
 
 /// A call that lets events happen in their order, as one that loads an object, does what a call for each of them does. A law about the

@@ -4,4 +4,4 @@
 
 mod laws;
 
-pub use laws::{calls_are_isolated, events_are_calls, many_runs_are_calls};
+pub use laws::{calls_are_isolated, events_are_calls, many_runs_are_calls, many_runs_are_isolated};
