@@ -6,14 +6,14 @@ use Rattle.host_core.specs.declared.reply.Reply.{Reply}
 use Rattle.host_core.specs.declared.reply.Reply.TheVariants.{Ended}
 use Rattle.host_core.specs.World.{System}
 use Rattle.host_core.specs.Happens.{RunHappens}
-use Rattle.host_core.specs.Many.{RunsFirst, StopsAfter, RunsMany, EndedBefore, context_at}
+use Rattle.host_core.specs.Many.{RunsFirst, RunsMany, EndedBefore, context_at}
 use Rattle.isolation.specs.Tenants.{AgreeOn, seen_by}
 use Rattle.isolation.proofs.Alike.{Alike}
 use Rattle.library_calls.specs.Several.{StoppedForWant, ReturnAlike, ManyRunsAreIsolated}
 use Rattle.library_calls.proofs.Together.{runs_together}
 
 -- the number that a run returned
-returned : Reply → ℕ
+abbrev returned : Reply → ℕ
 returned (Ended ret steps) = ret
 returned reply = 0
 
@@ -53,14 +53,10 @@ GoesOnAfter t k contexts size rets n x =
 goes_on_after : (t k : ℕ) (contexts : List ℕ) (size : ℕ) (rets : List ℕ) (n m : ℕ) (x x' : System) → n < m
     → RunsFirst t k contexts size rets m x x' → GoesOnAfter t k contexts size rets n x
 goes_on_after t k contexts size rets n zero x x' few h = absurd (omega (arith, few))
-goes_on_after t k contexts size rets n (suc m) x x' few (between, first, (steps, run)) = cases (cases_lt n m)
-  where
-    here : GoesOnAfter t k contexts size rets m x
-    here = (between, (x', (slice_index_or rets m 0, steps, (first, run))))
-
-    cases : (n < m) ⊎ (m ≤ n) → GoesOnAfter t k contexts size rets n x
-    cases (inl less) = goes_on_after t k contexts size rets n m x between less first
-    cases (inr more) = subst (λ j. GoesOnAfter t k contexts size rets j x) (omega (arith, few, more)) here
+goes_on_after t k contexts size rets n (suc m) x x' few (between, first, (steps, run)) = elim (cases_lt n m) [
+  | inl less ↦ goes_on_after t k contexts size rets n m x between less first
+  | inr more ↦ subst (λ j. GoesOnAfter t k contexts size rets j x) (omega (arith, few, more)) (between, (x', (slice_index_or rets m 0, steps, (first, run))))
+]
 
 at_most : (count n : ℕ) (stopped : Option Reply) → EndedBefore count n stopped → n ≤ count
 at_most count n None made = omega (arith, made)
