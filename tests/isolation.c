@@ -24,6 +24,8 @@ enum {
     OWN = 30,            /* how many events of the tenant a list has */
     BETWEEN = 7,         /* one more than the most that happens between two of them */
     VISITS = 8,          /* the most visits of one call */
+    RUNS = 4,            /* how many runs of a program one call makes */
+    CONTEXT = 8,         /* the most bytes of a context here */
     STEPS = 12,          /* one more than the most steps of one call, and than the most calls that follow the beginning of a run */
     LAST = 3,            /* the events of the tenant with which frames run out at the latest */
     TWO_PAGES = 2        /* the shape of two pages, each a value's */
@@ -78,7 +80,7 @@ static const struct shape {
 
 enum { SHAPES = sizeof shapes / sizeof *shapes, MAP_SHAPES = SHAPES - 1 };
 
-enum kind { CREATE_MAP, DROP_MAP, LOAD, UNLOAD, RUN, BEGIN, STEP, LOOKUP, UPDATE, VISIT, SET, UNMERGE, COUNTERS };
+enum kind { CREATE_MAP, DROP_MAP, LOAD, UNLOAD, RUN, RUN_MANY, BEGIN, STEP, LOOKUP, UPDATE, VISIT, SET, UNMERGE, COUNTERS };
 
 struct event {
     enum kind kind;
@@ -145,6 +147,18 @@ static void load(struct side *side, const struct event *event, struct reply *rep
     reply->code = bpf_host_load(&side->host, event->tenant, text, len, event->size, &reply->number, &reply->refused);
 }
 
+/* Runs a program on several contexts, of which each next one has greater bytes. The reply's value is the numbers that are returned. */
+static void run_many(struct side *side, const struct event *event, struct reply *reply)
+{
+    uint8_t contexts[RUNS * CONTEXT];
+    uint64_t rets[RUNS] = {0};
+    for (uint32_t at = 0; at < RUNS * event->size; at++)
+        contexts[at] = (uint8_t)(event->byte + at / event->size);
+    reply->code = bpf_host_run_many(&side->host, event->tenant, event->number, contexts, RUNS * event->size, rets, RUNS, &reply->refused);
+    reply->len = sizeof rets;
+    memcpy(reply->value, rets, sizeof rets);
+}
+
 static void look_up(struct side *side, const struct event *event, struct reply *reply)
 {
     uint32_t size = side->sizes[event->tenant][event->number];
@@ -181,6 +195,7 @@ static void apply(struct side *side, const struct event *event, struct reply *re
     case LOAD: load(side, event, reply); break;
     case UNLOAD: reply->code = bpf_host_unload(host, event->tenant, event->number); break;
     case RUN: reply->code = bpf_host_run(host, event->tenant, event->number, bytes, event->size, &reply->run, &reply->refused); break;
+    case RUN_MANY: run_many(side, event, reply); break;
     case BEGIN: reply->code = bpf_host_begin(host, event->tenant, event->number, bytes, event->size, &reply->refused); break;
     case STEP: reply->code = bpf_host_step(host, event->tenant, event->count, &reply->ended, &reply->run); break;
     case LOOKUP: look_up(side, event, reply); break;
@@ -210,7 +225,7 @@ static bool is_scarce(const struct reply *reply)
 
 static bool ends_run(const struct reply *reply)
 {
-    return reply->code == 0 && (reply->kind == RUN || (reply->kind == STEP && reply->ended));
+    return reply->code == 0 && (reply->kind == RUN || reply->kind == RUN_MANY || (reply->kind == STEP && reply->ended));
 }
 
 /* Draws the events of a tenant. Tenants have maps of few shapes and write few values, so that pages of several tenants are often alike. */
@@ -246,14 +261,14 @@ static struct event drawn_load(struct source *source, uint32_t text)
     return event;
 }
 
-/* A whole run or the beginning of one, mostly on no context. Some steps are to follow a beginning. */
+/* A whole run, several, or the beginning of one, mostly on no context. Some steps are to follow a beginning. */
 static struct event drawn_run(struct source *source, enum kind kind)
 {
     struct event event = event_of(source, kind);
     if (kind == BEGIN)
         source->steps = below(&source->draws, STEPS);
     event.number = below(&source->draws, 8) / 6;
-    event.size = below(&source->draws, event.number == 0 ? 8 : 2) == 0 ? 8 : 0;
+    event.size = below(&source->draws, event.number == 0 ? 8 : 2) == 0 ? CONTEXT : 0;
     event.byte = (uint8_t)below(&source->draws, 64);
     return event;
 }
@@ -304,7 +319,8 @@ static struct event next_event(struct source *source)
     case 0: case 1: return drawn_map(source, below(&source->draws, SHAPES));
     case 2: case 3: case 4: return drawn_load(source, below(&source->draws, TEXTS));
     case 5: case 6: case 7: case 8: return drawn_run(source, BEGIN);
-    case 9: case 10: case 11: case 12: return drawn_run(source, RUN);
+    case 9: case 10: return drawn_run(source, RUN);
+    case 11: case 12: return drawn_run(source, RUN_MANY);
     case 13: return drawn_step(source);
     case 14: case 15: case 16: case 17: case 18: case 19: case 20: return drawn_update(source);
     case 21: case 22: case 23: return drawn_other(source, LOOKUP);

@@ -6,7 +6,8 @@
  *     5  a map lacks frames where the next tenant has a second one
  *     6  no run ends
  *     7  no page is merged
- *     8  a refusal for want of frames doesn't say how many may be had */
+ *     8  a refusal for want of frames doesn't say how many may be had
+ *     9  of many runs the last one isn't made where pages share frames */
 #include "bpf_host.h"
 
 enum { NO_FRAMES = 31, NO_MAP = 34, BUSY = 36, NO_RUN = 37, TENANTS = 3, NO_PROGRAM_HAS = 99 };
@@ -21,6 +22,10 @@ uint32_t __real_bpf_host_run(struct bpf_host *host, uint32_t tenant, uint32_t pr
                              struct bpf_host_run *run, struct bpf_host_refused *refused);
 uint32_t __wrap_bpf_host_run(struct bpf_host *host, uint32_t tenant, uint32_t program, const uint8_t *context, size_t context_len,
                              struct bpf_host_run *run, struct bpf_host_refused *refused);
+uint32_t __real_bpf_host_run_many(struct bpf_host *host, uint32_t tenant, uint32_t program, const uint8_t *contexts, size_t contexts_len,
+                                  uint64_t *rets, size_t rets_len, struct bpf_host_refused *refused);
+uint32_t __wrap_bpf_host_run_many(struct bpf_host *host, uint32_t tenant, uint32_t program, const uint8_t *contexts, size_t contexts_len,
+                                  uint64_t *rets, size_t rets_len, struct bpf_host_refused *refused);
 uint32_t __real_bpf_host_step(struct bpf_host *host, uint32_t tenant, uint64_t steps, bool *ended, struct bpf_host_run *run);
 uint32_t __wrap_bpf_host_step(struct bpf_host *host, uint32_t tenant, uint64_t steps, bool *ended, struct bpf_host_run *run);
 uint32_t __real_bpf_host_create_map(struct bpf_host *host, uint32_t tenant, uint32_t value_size, uint32_t entries, bool mergeable, uint32_t *map,
@@ -63,6 +68,17 @@ uint32_t __wrap_bpf_host_run(struct bpf_host *host, uint32_t tenant, uint32_t pr
     if (PLANT == 3 && code == 0 && bpf_host_counters(host, &counters) == 0)
         run->steps += counters.pages_sharing != 0;
     return code;
+}
+
+uint32_t __wrap_bpf_host_run_many(struct bpf_host *host, uint32_t tenant, uint32_t program, const uint8_t *contexts, size_t contexts_len,
+                                  uint64_t *rets, size_t rets_len, struct bpf_host_refused *refused)
+{
+    struct bpf_host_counters counters;
+    if (PLANT == 6)
+        return BUSY;
+    if (PLANT == 9 && rets_len > 0 && bpf_host_counters(host, &counters) == 0 && counters.pages_sharing > 0)
+        return __real_bpf_host_run_many(host, tenant, program, contexts, contexts_len - contexts_len / rets_len, rets, rets_len - 1, refused);
+    return __real_bpf_host_run_many(host, tenant, program, contexts, contexts_len, rets, rets_len, refused);
 }
 
 uint32_t __wrap_bpf_host_step(struct bpf_host *host, uint32_t tenant, uint64_t steps, bool *ended, struct bpf_host_run *run)
