@@ -1,6 +1,6 @@
 //! The text of a function with a copy of the called text at each of its calls.
 
-use crate::copied::{Copied, size_of};
+use crate::call_copy::{CallCopy, size_of};
 use crate::copy::copied;
 use crate::expansion::{Begins, MOST_SLOTS};
 use crate::frame::{STACK, frame_of};
@@ -47,7 +47,7 @@ impl Caller<'_> {
         &self,
         alloc: Global,
         made: &[Option<Made>],
-    ) -> Result<Vec<Option<Copied>>, NotInlined> {
+    ) -> Result<Vec<Option<CallCopy>>, NotInlined> {
         let text = self.function.text;
         let live = live(alloc, text)?;
         let mut copies = Vec::new(alloc);
@@ -65,7 +65,8 @@ impl Caller<'_> {
             }
             let after = live_after(&insn, slot, live.as_slice());
             let copy = self.copy_at(alloc, slot, after, made)?;
-            slots = slots.saturating_add(copy.slots());
+            // The copies alone, of which too many take much memory: `Begins::add` counts all slots.
+            slots = slots.saturating_add(copy.copy.slots());
             if slots > MOST_SLOTS {
                 return Err(Stop::TooLong.at(slot));
             }
@@ -81,7 +82,7 @@ impl Caller<'_> {
         slot: usize,
         after: u16,
         made: &[Option<Made>],
-    ) -> Result<Copied, NotInlined> {
+    ) -> Result<CallCopy, NotInlined> {
         let Some(called) = self.called_at(slot, made) else {
             return Err(Stop::UnknownCall.at(slot));
         };
@@ -92,7 +93,7 @@ impl Caller<'_> {
             return Err(Stop::StackSize.at(slot));
         }
         let copy = copied(alloc, &called.whole, shift)?;
-        Ok(Copied { saved, copy, end })
+        Ok(CallCopy { saved, copy, end })
     }
 
     /// The text that is called at a slot.
@@ -108,7 +109,7 @@ impl Caller<'_> {
     fn whole(
         &self,
         alloc: Global,
-        copies: &[Option<Copied>],
+        copies: &[Option<CallCopy>],
         begins: &Begins,
     ) -> Result<Inlined, NotInlined> {
         let mut whole = Inlined::new(alloc);
@@ -123,7 +124,7 @@ impl Caller<'_> {
             };
             let at = whole.slots();
             match copy {
-                Some(copied) => copied.push(self.frame, origin, &mut whole)?,
+                Some(copy) => copy.push(self.frame, origin, &mut whole)?,
                 None if is_second => whole.push(&insn, origin)?,
                 None => whole.push(&begins.moved(insn, slot, at)?, origin)?,
             }
@@ -134,11 +135,11 @@ impl Caller<'_> {
 }
 
 /// Where each slot of a function begins in its text with copies.
-fn begins_of(alloc: Global, copies: &[Option<Copied>]) -> Result<Begins, NotInlined> {
+fn begins_of(alloc: Global, copies: &[Option<CallCopy>]) -> Result<Begins, NotInlined> {
     let mut begins = Begins::new(alloc);
     for copy in copies {
         begins.add(match copy {
-            Some(copied) => copied.slots(),
+            Some(copy) => copy.slots(),
             None => 1,
         })?;
     }
@@ -146,10 +147,10 @@ fn begins_of(alloc: Global, copies: &[Option<Copied>]) -> Result<Begins, NotInli
 }
 
 /// How much stack is used by a function, its own or that of a copy.
-fn deepest(frame: i16, copies: &[Option<Copied>]) -> i16 {
+fn deepest(frame: i16, copies: &[Option<CallCopy>]) -> i16 {
     let mut deepest = frame;
-    for copied in copies.iter().flatten() {
-        deepest = deepest.max(copied.end);
+    for copy in copies.iter().flatten() {
+        deepest = deepest.max(copy.end);
     }
     deepest
 }

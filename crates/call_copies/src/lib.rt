@@ -2,8 +2,8 @@
 //! are kept, each call has a stack of its own). What is promised of such a text is tested and proved above, in `inlining`.
 #![tactic(auto)]
 
+mod call_copy;
 mod caller;
-mod copied;
 mod copy;
 mod expansion;
 mod frame;

@@ -28,7 +28,11 @@ end_alike t k context x y x' y' ret other steps further agree one two =
     cases (inr (inl scarce)) = absurd (cc (scarce))
     cases (inr (inr same)) = (ap returned same.0, same.1)
 
-one_more_alike : (n : ℕ) (rets others : List ℕ) → ReturnAlike n rets others → slice_index_or rets n 0 ≡ slice_index_or others n 0 → ReturnAlike (suc n) rets others
+-- the first n numbers are the same
+abbrev FirstAlike : ℕ → List ℕ → List ℕ → Type 0
+FirstAlike n rets others = (i : ℕ) → i < n → slice_index_or rets i 0 ≡ slice_index_or others i 0
+
+one_more_alike : (n : ℕ) (rets others : List ℕ) → FirstAlike n rets others → slice_index_or rets n 0 ≡ slice_index_or others n 0 → FirstAlike (suc n) rets others
 one_more_alike n rets others before last i few = cases (cases_lt i n)
   where
     cases : (i < n) ⊎ (n ≤ i) → slice_index_or rets i 0 ≡ slice_index_or others i 0
@@ -37,7 +41,7 @@ one_more_alike n rets others before last i few = cases (cases_lt i n)
 
 -- as many runs that ended
 first_alike : (t k : ℕ) (contexts : List ℕ) (size : ℕ) (rets others : List ℕ) (n : ℕ) (x y x' y' : System) → AgreeOn t x y
-    → RunsFirst t k contexts size rets n x x' → RunsFirst t k contexts size others n y y' → ReturnAlike n rets others × AgreeOn t x' y'
+    → RunsFirst t k contexts size rets n x x' → RunsFirst t k contexts size others n y y' → FirstAlike n rets others × AgreeOn t x' y'
 first_alike t k contexts size rets others zero x y x' y' agree h l =
     ((λ i few. absurd (omega (arith, few))), ap (seen_by t) h ∙ agree ∙ sym (ap (seen_by t) l))
 first_alike t k contexts size rets others (suc n) x y x' y' agree (between, first, (steps, run)) (also, second, (further, last)) =
@@ -65,45 +69,63 @@ at_most count n (Some reply) made = omega (arith, made)
 -- where fewer runs ended, frames or memory were short
 fewer_for_want : (t k : ℕ) (contexts : List ℕ) (size count : ℕ) (x y x' y' : System) (rets others : List ℕ) (n m : ℕ) (stopped : Option Reply)
     → AgreeOn t x y → EndedBefore count n stopped → m ≤ count → n < m
-    → RunsMany t k contexts size rets n stopped x x' → RunsFirst t k contexts size others m y y' → StoppedForWant stopped
+    → RunsMany t k contexts size rets n stopped x x' → RunsFirst t k contexts size others m y y' → FirstAlike n rets others × StoppedForWant stopped
 fewer_for_want t k contexts size count x y x' y' rets others n m None agree made most few h l = absurd (omega (arith, made, most, few))
 fewer_for_want t k contexts size count x y x' y' rets others n m (Some reply) agree made most few (between, first, (stops, run)) l =
     let (z, (next, (ret, steps, (second, ends)))) = goes_on_after t k contexts size others n m y y' few l in
-    let before = first_alike t k contexts size rets others n x y between z agree first second in
-    elim (runs_together t k (context_at contexts size n) between z x' next reply (Ended ret steps) before.1 run ends) [
-      | inl scarce ↦ scarce
-      | inr (inl scarce) ↦ absurd (cc (scarce))
-      | inr (inr same) ↦ absurd (stops ret steps same.0)
-    ]
+    let before = first_alike t k contexts size rets others n x y between z agree first second in (
+      before.0,
+      elim (runs_together t k (context_at contexts size n) between z x' next reply (Ended ret steps) before.1 run ends) [
+        | inl scarce ↦ scarce
+        | inr (inl scarce) ↦ absurd (cc (scarce))
+        | inr (inr same) ↦ absurd (stops ret steps same.0)
+      ],
+    )
 
 -- where as many ended, both calls were stopped alike
-as_many_alike : (t k : ℕ) (contexts : List ℕ) (size count : ℕ) (x y x' y' : System) (rets others : List ℕ) (n : ℕ) (stopped ended : Option Reply)
-    → AgreeOn t x y → EndedBefore count n stopped → EndedBefore count n ended
-    → RunsMany t k contexts size rets n stopped x x' → RunsMany t k contexts size others n ended y y'
-    → StoppedForWant stopped ⊎ StoppedForWant ended ⊎ ((stopped ≡ ended) × ReturnAlike n rets others × AgreeOn t x' y')
+as_many_alike : (t k : ℕ) (contexts : List ℕ) (size count : ℕ) (x y x' y' : System) (rets others : List ℕ) (n : ℕ) (stopped halted : Option Reply)
+    → AgreeOn t x y → EndedBefore count n stopped → EndedBefore count n halted
+    → RunsMany t k contexts size rets n stopped x x' → RunsMany t k contexts size others n halted y y'
+    → FirstAlike n rets others × (StoppedForWant stopped ⊎ StoppedForWant halted ⊎ ((stopped ≡ halted) × AgreeOn t x' y'))
 as_many_alike t k contexts size count x y x' y' rets others n None None agree made also (between, first, h) (last, second, l) =
     let before = first_alike t k contexts size rets others n x y between last agree first second in
-    inr (inr (refl, before.0, ap (seen_by t) h ∙ before.1 ∙ sym (ap (seen_by t) l)))
+    (before.0, inr (inr (refl, ap (seen_by t) h ∙ before.1 ∙ sym (ap (seen_by t) l))))
 as_many_alike t k contexts size count x y x' y' rets others n None (Some reply) agree made also h l = absurd (omega (arith, made, also))
 as_many_alike t k contexts size count x y x' y' rets others n (Some reply) None agree made also h l = absurd (omega (arith, made, also))
 as_many_alike t k contexts size count x y x' y' rets others n (Some reply) (Some other) agree made also (between, first, (stops, run)) (last, second, (ends, more)) =
-    let before = first_alike t k contexts size rets others n x y between last agree first second in
-    elim (runs_together t k (context_at contexts size n) between last x' y' reply other before.1 run more) [
-      | inl scarce ↦ inl scarce
-      | inr (inl scarce) ↦ inr (inl scarce)
-      | inr (inr same) ↦ inr (inr (ap Some same.0, before.0, same.1))
-    ]
+    let before = first_alike t k contexts size rets others n x y between last agree first second in (
+      before.0,
+      elim (runs_together t k (context_at contexts size n) between last x' y' reply other before.1 run more) [
+        | inl scarce ↦ inl scarce
+        | inr (inl scarce) ↦ inr (inl scarce)
+        | inr (inr same) ↦ inr (inr (ap Some same.0, same.1))
+      ],
+    )
+
+-- what is said of both calls
+abbrev GoTogether : ℕ → List ℕ → List ℕ → ℕ → ℕ → Option Reply → Option Reply → System → System → Type 0
+GoTogether t rets others n m stopped halted x' y' =
+    ReturnAlike n m rets others
+    × (((n ≤ m) × StoppedForWant stopped) ⊎ ((m ≤ n) × StoppedForWant halted) ⊎ ((n ≡ m) × (stopped ≡ halted) × AgreeOn t x' y'))
+
+as_many : (t : ℕ) (rets others : List ℕ) (n m : ℕ) (stopped halted : Option Reply) (x' y' : System) → n ≡ m
+    → FirstAlike n rets others × (StoppedForWant stopped ⊎ StoppedForWant halted ⊎ ((stopped ≡ halted) × AgreeOn t x' y'))
+    → GoTogether t rets others n m stopped halted x' y'
+as_many t rets others n m stopped halted x' y' same (first, inl scarce) = ((λ i few less. first i few), inl (omega (arith, same), scarce))
+as_many t rets others n m stopped halted x' y' same (first, inr (inl scarce)) = ((λ i few less. first i few), inr (inl (omega (arith, same), scarce)))
+as_many t rets others n m stopped halted x' y' same (first, inr (inr alike)) = ((λ i few less. first i few), inr (inr (same, alike.0, alike.1)))
 
 pub many_runs_are_isolated : ManyRunsAreIsolated
-many_runs_are_isolated t k contexts size count x y x' y' rets others n m stopped ended agree made also h l = cases (cases_order n m)
+many_runs_are_isolated t k contexts size count x y x' y' rets others n m stopped halted agree made also h l = cases (cases_order n m)
   where
-    cases : (n ≡ m) ⊎ ((n < m) ⊎ (m < n)) → StoppedForWant stopped ⊎ StoppedForWant ended ⊎ ((n ≡ m) × (stopped ≡ ended) × ReturnAlike n rets others × AgreeOn t x' y')
+    cases : (n ≡ m) ⊎ ((n < m) ⊎ (m < n)) → GoTogether t rets others n m stopped halted x' y'
     cases (inl same) =
-        elim (as_many_alike t k contexts size count x y x' y' rets others n stopped ended agree made (subst (λ i. EndedBefore count i ended) (sym same) also)
-        h (subst (λ i. RunsMany t k contexts size others i ended y y') (sym same) l)) [
-          | inl scarce ↦ inl scarce
-          | inr (inl scarce) ↦ inr (inl scarce)
-          | inr (inr alike) ↦ inr (inr (same, alike.0, alike.1, alike.2))
-        ]
-    cases (inr (inl fewer)) = inl (fewer_for_want t k contexts size count x y x' l.0 rets others n m stopped agree made (at_most count m ended also) fewer h l.1)
-    cases (inr (inr more)) = inr (inl (fewer_for_want t k contexts size count y x y' h.0 others rets m n ended (sym agree) also (at_most count n stopped made) more l h.1))
+        as_many t rets others n m stopped halted x' y' same
+        (as_many_alike t k contexts size count x y x' y' rets others n stopped halted agree made (subst (λ i. EndedBefore count i halted) (sym same) also)
+        h (subst (λ i. RunsMany t k contexts size others i halted y y') (sym same) l))
+    cases (inr (inl fewer)) =
+        let before = fewer_for_want t k contexts size count x y x' l.0 rets others n m stopped agree made (at_most count m halted also) fewer h l.1 in
+        ((λ i few less. before.0 i few), inl (omega (arith, fewer), before.1))
+    cases (inr (inr more)) =
+        let before = fewer_for_want t k contexts size count y x y' h.0 others rets m n halted (sym agree) also (at_most count n stopped made) more l h.1 in
+        ((λ i few less. sym (before.0 i less)), inr (inl (omega (arith, more), before.1)))

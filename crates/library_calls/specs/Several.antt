@@ -1,5 +1,5 @@
 -- Calls that make several others, one after the other.
-use Rattle.std.specs.Prelude.{◌≡◌, ◌<◌, ◌⊎◌, ℕ, zero, suc, true, List, [], ◌∷◌, ◌++◌, slice_index_or, map, Option, Some, None}
+use Rattle.std.specs.Prelude.{◌≡◌, ◌<◌, ◌≤◌, ◌⊎◌, ℕ, zero, suc, true, List, [], ◌∷◌, ◌++◌, slice_index_or, map, Option, Some, None}
 use Rattle.host_types.specs.declared.event.Event.{Event}
 use Rattle.host_core.specs.declared.reply.Reply.{Reply}
 use Rattle.host_core.specs.declared.reply.Reply.TheVariants.{Ended}
@@ -43,19 +43,20 @@ abbrev pub StoppedForWant : Option Reply → Type 0
 StoppedForWant None = ⊥
 StoppedForWant (Some reply) = is_scarce reply ≡ true
 
--- the first n numbers are the same
-abbrev pub ReturnAlike : ℕ → List ℕ → List ℕ → Type 0
-ReturnAlike n rets others = (i : ℕ) → i < n → slice_index_or rets i 0 ≡ slice_index_or others i 0
+-- runs of which n and m ended returned the same, as far as both go
+abbrev pub ReturnAlike : ℕ → ℕ → List ℕ → List ℕ → Type 0
+ReturnAlike n m rets others = (i : ℕ) → i < n → i < m → slice_index_or rets i 0 ≡ slice_index_or others i 0
 
--- Two systems agree on a tenant, and a call on each makes up to so many runs of its program, on the same contexts. Then one of them was
--- stopped since frames or memory were short, or both made as many runs, with the same numbers, were stopped by the same reply, if by
--- any, and agree on the tenant afterwards.
+-- Two systems agree on a tenant, and a call on each makes up to so many runs of its program, on the same contexts. Then the runs that ended on
+-- both sides returned the same. Where one call was stopped since frames or memory were short, the other one made at least as many runs; and
+-- else both made as many, were stopped by the same reply, if by any, and the systems agree on the tenant afterwards.
 abbrev pub ManyRunsAreIsolated : Type 0
 ManyRunsAreIsolated =
-    (t k : ℕ) (contexts : List ℕ) (size count : ℕ) (x y x' y' : System) (rets others : List ℕ) (n m : ℕ) (stopped ended : Option Reply)
-    → AgreeOn t x y → EndedBefore count n stopped → EndedBefore count m ended
-    → RunsMany t k contexts size rets n stopped x x' → RunsMany t k contexts size others m ended y y'
-    → StoppedForWant stopped ⊎ StoppedForWant ended ⊎ ((n ≡ m) × (stopped ≡ ended) × ReturnAlike n rets others × AgreeOn t x' y')
+    (t k : ℕ) (contexts : List ℕ) (size count : ℕ) (x y x' y' : System) (rets others : List ℕ) (n m : ℕ) (stopped halted : Option Reply)
+    → AgreeOn t x y → EndedBefore count n stopped → EndedBefore count m halted
+    → RunsMany t k contexts size rets n stopped x x' → RunsMany t k contexts size others m halted y y'
+    → ReturnAlike n m rets others
+    × (((n ≤ m) × StoppedForWant stopped) ⊎ ((m ≤ n) × StoppedForWant halted) ⊎ ((n ≡ m) × (stopped ≡ halted) × AgreeOn t x' y'))
 
 -- A call that lets events happen in their order, as one that loads an object, does what a call each does.
 abbrev pub EventsAreCalls : Type 0

@@ -13,8 +13,9 @@ pub fn many_runs_are_calls()
     ensures { ManyRunsAreCalls }
 {}
 
-/// Such calls are isolated, too: on two hosts that agree on a tenant one of them is stopped since frames or memory are short, or both make as
-/// many runs, which return the same, and are stopped by the same reply, if by any. A law about the definitions.
+/// A call that makes many runs is isolated, too: made on two hosts that agree on the tenant, with the same program and contexts, runs that
+/// ended on both return the same; and unless one call is stopped since frames or memory are short, both make as many, are stopped by the same
+/// reply, if by any, and the hosts agree on the tenant afterwards. A law about the definitions.
 pub fn many_runs_are_isolated()
     ensures { ManyRunsAreIsolated }
 {}

@@ -7,13 +7,13 @@ use crate::stop::NotInlined;
 
 /// A call in a text: which registers it saves, the copy of the called text, and how much stack is used there.
 #[derive(Drop)]
-pub(crate) struct Copied {
+pub(crate) struct CallCopy {
     pub saved: u16,
     pub copy: Inlined,
     pub end: i16,
 }
 
-impl Copied {
+impl CallCopy {
     /// The slots that stand for the call.
     pub fn slots(&self) -> usize {
         let saved = usize::from(size_of(self.saved).unsigned_abs()) / 8;
