@@ -89,7 +89,7 @@ struct event {
     uint32_t key;
     uint32_t size;      /* of a value or context */
     uint64_t count;     /* of entries, steps or visits, or the value of an option */
-    uint8_t byte;       /* each byte of a value or context is this */
+    uint8_t byte;       /* each byte of a value or context is this; those of several contexts grow */
     bool mergeable;
 };
 
@@ -451,10 +451,11 @@ static bool values_agree(struct side *left, struct side *right, uint32_t tenant)
 
 enum outcome { SAME, SCARCE, DIFFERENT };
 
-/* How many replies to the tenants were compared, how many of them end a run or refuse, and how many pages came to share frames. */
+/* How many replies to the tenants were compared, how many of them end a run, end several, or refuse, and how many pages came to share frames. */
 static struct {
     uint32_t compared;
     uint32_t ended;
+    uint32_t several;
     uint32_t refused;
     uint32_t merged;
 } tally;
@@ -463,6 +464,7 @@ static void count(const struct reply *reply)
 {
     tally.compared++;
     tally.ended += ends_run(reply);
+    tally.several += reply->kind == RUN_MANY && reply->code == 0;
     tally.refused += reply->code != 0;
 }
 
@@ -527,11 +529,12 @@ static bool compare_pairs(uint32_t pairs)
 /* Prints whether so much happened that the comparison says something. */
 static bool happened_enough(void)
 {
-    bool enough = tally.compared >= 100000 && tally.ended >= 1000 && tally.refused >= 10000 && tally.merged >= 10000;
-    printf("100,000 replies or more were compared, of which 1,000 or more end a run and 10,000 or more refuse, and 10,000 pages or more "
-           "were merged: %s\n", enough ? "true" : "false");
+    bool enough = tally.compared >= 100000 && tally.ended >= 1000 && tally.several >= 1000 && tally.refused >= 10000 && tally.merged >= 10000;
+    printf("100,000 replies or more were compared, of which 1,000 or more end a run, 1,000 or more end several and 10,000 or more refuse, and "
+           "10,000 pages or more were merged: %s\n", enough ? "true" : "false");
     if (!enough)
-        printf("%u compared, %u end a run, %u refuse, %u pages merged\n", tally.compared, tally.ended, tally.refused, tally.merged);
+        printf("%u compared, %u end a run, %u end several, %u refuse, %u pages merged\n", tally.compared, tally.ended, tally.several, tally.refused,
+               tally.merged);
     return enough;
 }
 

@@ -2,7 +2,7 @@
  *     1  an update is also written to the map of the next tenant
  *     2  a lookup shows how many frames are free
  *     3  a run makes one step more where pages share frames
- *     4  no run begins while the next tenant's is open
+ *     4  no run is made to its end while the next tenant's is open
  *     5  a map lacks frames where the next tenant has a second one
  *     6  no run ends
  *     7  no page is merged
@@ -74,7 +74,7 @@ uint32_t __wrap_bpf_host_run_many(struct bpf_host *host, uint32_t tenant, uint32
                                   uint64_t *rets, size_t rets_len, struct bpf_host_refused *refused)
 {
     struct bpf_host_counters counters;
-    if (PLANT == 6)
+    if (PLANT == 6 || (PLANT == 4 && bpf_host_unload(host, next_tenant(tenant), NO_PROGRAM_HAS) == BUSY))
         return BUSY;
     if (PLANT == 9 && rets_len > 0 && bpf_host_counters(host, &counters) == 0 && counters.pages_sharing > 0)
         return __real_bpf_host_run_many(host, tenant, program, contexts, contexts_len - contexts_len / rets_len, rets, rets_len - 1, refused);
