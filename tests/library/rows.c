@@ -37,6 +37,10 @@ static void test_counter(void)
     check_run(&host, 0, "", 1, 11);
     check_run(&host, 0, "", 2, 11);
     check_value(&host, 0, 0, 0, "0200000000000000");
+    /* A program that takes the place of another one finds the maps as they were. */
+    CHECK(bpf_host_unload(&host, 0, 0), 0);
+    CHECK(load_hex(&host, 0, COUNTER, 0), 0);
+    check_run(&host, 0, "", 3, 11);
     bpf_host_free(&host);
     open_host(&host, 8, 1);
     CHECK(make_map(&host, 0, 8, 1), 0);
