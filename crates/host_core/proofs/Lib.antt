@@ -16,4 +16,5 @@ pub mod Stepping
 pub mod Unreserved
 pub mod Making
 pub mod Sequences
+pub mod WholeRuns
 pub mod FoundOpen

@@ -3,3 +3,4 @@ pub mod Happens
 pub mod HostView
 pub mod Batches
 pub mod Many
+pub mod WholeRuns

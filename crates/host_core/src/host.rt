@@ -1,4 +1,4 @@
-ghost use Rattle.std.specs.Prelude.{◌≡◌, ◌≢◌, ◌≤◌, ◌↔◌, ◌⊎◌, ◌*◌, ℕ, length, IsSome, IsTrue, None, IfOk, OnOk, IfErr, OnErr, option_map};
+ghost use Rattle.std.specs.Prelude.{◌≡◌, ◌≢◌, ◌<◌, ◌≤◌, ◌↔◌, ◌⊎◌, ◌*◌, ℕ, length, IsSome, IsTrue, None, IfOk, OnOk, IfErr, OnErr, option_map};
 ghost use Rattle.host_types.specs.Memory.{map_at};
 ghost use Rattle.page_table.specs.State.{part};
 ghost use Rattle.host_types.specs.OptionTable.{AreOptions};
@@ -8,11 +8,11 @@ ghost use Rattle.host_core.specs.World.{System, IsCovered, FoundIsOpen, new_syst
 ghost use Rattle.host_core.specs.Happens.{Happens, IsPromised, AllHappen, RunHappens, StepsHappen, SetHappens, UnmergeHappens, JoinHappens, SplitHappens};
 ghost use Rattle.host_core.specs.HostView.{StandsForSystem, IsCopied, event_of, reply_of};
 ghost use Rattle.host_core.specs.Many.{HaveRun};
+ghost use Rattle.host_core.specs.WholeRuns.{HaveRunFrom};
 ghost use Rattle.host_types.specs.declared.fault.Fault.TheVariants.{OutOfMemory};
 ghost use Rattle.host_types.specs.declared.event.Event.TheVariants.{CreateMap, Load, Begin, HostUpdate, HostLookup, Unload, DropMap, Visit};
 ghost use Rattle.host_core.specs.declared.reply.Reply.{Reply as KnownReply};
 
-use crate::open_run::LOOP_OF_MANY;
 use crate::reply::Reply;
 use crate::tenant::Tenant;
 use crate::tenant_event::TenantEvent;
@@ -23,7 +23,6 @@ use page_table::Memory;
 use scanner::visit;
 use std::alloc::{AllocError, Global};
 use std::marker::Model;
-use tenant_runs::SHARED_LOOP;
 
 /// Several tenants, each with its own maps, programs and at most one open run, in a memory whose pages are
 /// merged. Contracts see them by number, and say which system of private memories the host stands for.
@@ -179,7 +178,12 @@ impl Host {
         ensures { (x : System) → StandsForSystem self.old x
             → (next : System) × StandsForSystem self.new next × RunHappens x tenant program context.now result next }
     {
-        self.run_alone::<SHARED_LOOP>(tenant, program, context)
+        self.memory.facts();
+        let index = tenant as usize;
+        if index >= self.tenants.len() {
+            return Reply::Refused(Fault::BadTenant);
+        }
+        self.tenants[index].run(&mut self.memory, tenant, program, context)
     }
 
     /// Makes a whole run of a tenant's loaded program on each of some contexts, which have one size and stand one after the other, as `run`
@@ -195,28 +199,46 @@ impl Host {
         requires { size * length rets.old ≡ length contexts.now }
         ensures { (n : ℕ) × HaveRun tenant program contexts.now size rets.old rets.new n result self.old self.new }
     {
-        for number in 0..rets.len() {
-            let at = number * size;
-            match self.run_alone::<LOOP_OF_MANY>(tenant, program, &contexts[at..at + size]) {
-                Reply::Ended { ret, steps: _ } => rets[number] = ret,
-                stopped => return Some(stopped),
+        let mut done = 0;
+        // Most programs ask for no update or deletion: then all runs are made at once.
+        while done < rets.len() {
+            match self.run_from(tenant, program, contexts, size, rets, done) {
+                Ok(ended) => done = ended,
+                Err(stopped) => return Some(stopped),
             }
         }
         None
     }
 
-    /// Makes a whole run. The parameter is that of the tenant's maps.
+    /// Makes such runs from the context with a number on: how many contexts are done then, or the reply to the first run that doesn't end.
     #[inline(always)]
-    fn run_alone<const LOOP: u8>(&mut self, tenant: u32, program: u32, context: &[u8]) -> Reply
-        ensures { (x : System) → StandsForSystem self.old x
-            → (next : System) × StandsForSystem self.new next × RunHappens x tenant program context.now result next }
+    fn run_from(
+        &mut self,
+        tenant: u32,
+        program: u32,
+        contexts: &[u8],
+        size: usize,
+        rets: &mut [u64],
+        from: usize,
+    ) -> Result<usize, Reply>
+        requires sized { size * length rets.old ≡ length contexts.now }
+        requires from { from < length rets.old }
+        ensures { HaveRunFrom tenant program contexts.now size rets.old from result self.old self.new rets.new }
     {
         self.memory.facts();
         let index = tenant as usize;
         if index >= self.tenants.len() {
-            return Reply::Refused(Fault::BadTenant);
+            return Err(Reply::Refused(Fault::BadTenant));
         }
-        self.tenants[index].run::<LOOP>(&mut self.memory, tenant, program, context)
+        self.tenants[index].run_from(
+            &mut self.memory,
+            tenant,
+            program,
+            contexts,
+            size,
+            rets,
+            from,
+        )
     }
 
     /// The shape of a tenant's map, if it has one of this number.

@@ -1,23 +1,98 @@
-//! A whole run of a tenant, in one call.
-ghost use Rattle.std.specs.Prelude.{◌≡◌, ◌≤◌, ◌<◌, ◌+◌, Some};
+//! Whole runs of a tenant, each in one call or many in one.
+ghost use Rattle.std.specs.Prelude.{◌≡◌, ◌≤◌, ◌<◌, ◌+◌, ◌*◌, Some};
 
+use crate::open_run::LOOP_OF_MANY;
 use crate::reply::Reply;
-use crate::tenant::{Tenant, program_of};
+use crate::tenant::{OpenRun, Tenant, program_of};
 use host_types::Fault;
 use page_table::Memory;
-use tenant_runs::reopen_unreserved;
+use tenant_runs::{SHARED_LOOP, reopen_unreserved};
+use verifier::Verified;
 
 /// More steps than a run makes.
 const ALL_STEPS: u64 = 4294967296;
 
+/// What stopped runs that are made on one context after the other.
+#[derive(Clone, Copy)]
+pub(crate) enum Stop {
+    /// Nothing: each of them ended.
+    AllEnded,
+    /// The run on the context with this number asked for an update or a deletion, and goes on.
+    Open(usize),
+    /// The next run wasn't begun.
+    Refused(Fault),
+}
+
+impl OpenRun {
+    ghost use Rattle.std.specs.Prelude.{◌≡◌, ◌≤◌, ◌*◌, length, List, Option};
+    ghost use Rattle.verifier.specs.Verified.{Accepted};
+    ghost use Rattle.host_core.specs.WholeRuns.{IsReady, HasComeTo, HaveStopped};
+
+    /// Makes a whole run of a tenant's program, as far as it goes without an update or a deletion: what it returned, if it ended. It is
+    /// never noted as open, and nothing is recorded as reserved for it: nobody could see that.
+    #[inline(always)]
+    fn make_run<const LOOP: u8>(
+        &mut self,
+        program: &Verified,
+        memory: &mut Memory,
+        number: u32,
+        context: &[u8],
+    ) -> Result<Option<u64>, Fault>
+        requires rests { (programs : List (Option Accepted)) × IsReady programs self.old.program program.now number memory.old }
+        ensures program { self.new.program ≡ self.old.program }
+        ensures made { (programs : List (Option Accepted)) → IsReady programs self.old.program program.now number memory.old
+            → HasComeTo programs number self.old.program context.now memory.old result self.new memory.new }
+    {
+        memory.facts();
+        if let Err(fault) = reopen_unreserved(memory, number, program, context, &mut self.run) {
+            return Err(fault);
+        }
+        memory.facts();
+        let ended = self.advance_started::<LOOP>(program, memory, number, ALL_STEPS);
+        memory.facts();
+        Ok(ended)
+    }
+
+    /// Makes such runs on one context after the other, from the one with a number on, and writes what each returns, up to the first that
+    /// doesn't end. The program is looked up once for all of them.
+    #[inline(always)]
+    fn make_runs(
+        &mut self,
+        program: &Verified,
+        memory: &mut Memory,
+        number: u32,
+        contexts: &[u8],
+        size: usize,
+        rets: &mut [u64],
+        from: usize,
+    ) -> Stop
+        requires sized { size * length rets.old ≡ length contexts.now }
+        requires from { from ≤ length rets.old }
+        requires rests { (programs : List (Option Accepted)) × IsReady programs self.old.program program.now number memory.old }
+        ensures made { (programs : List (Option Accepted)) → IsReady programs self.old.program program.now number memory.old
+            → HaveStopped programs number self.old.program contexts.now size rets.old from memory.old result self.new memory.new rets.new }
+    {
+        for index in from..rets.len() {
+            let at = index * size;
+            match self.make_run::<LOOP_OF_MANY>(program, memory, number, &contexts[at..at + size]) {
+                Ok(Some(ret)) => rets[index] = ret,
+                Ok(None) => return Stop::Open(index),
+                Err(fault) => return Stop::Refused(fault),
+            }
+        }
+        Stop::AllEnded
+    }
+}
+
 impl Tenant {
     ghost use Rattle.host_core.specs.HostView.{IsKept, HasMadeRun, HasMadeSteps, steps_of};
+    ghost use Rattle.host_core.specs.WholeRuns.{HasMadeRuns};
+    ghost use Rattle.std.specs.Prelude.{length};
 
     /// Makes a whole run of a program, from its beginning to its end: the reply is that to its last step, or what refuses its
-    /// beginning. A run that asks for no update or deletion is never noted as open, and nothing is recorded as reserved for it:
-    /// nobody could see that.
+    /// beginning.
     #[inline(always)]
-    pub(crate) fn run<const LOOP: u8>(
+    pub(crate) fn run(
         &mut self,
         memory: &mut Memory,
         number: u32,
@@ -36,18 +111,62 @@ impl Tenant {
         };
         let open = &mut self.run.latest;
         open.program = program;
-        if let Err(fault) = reopen_unreserved(memory, number, verified, context, &mut open.run) {
-            return Reply::Refused(fault);
-        }
-        memory.facts();
-        let ended = open.advance_started::<LOOP>(verified, memory, number, ALL_STEPS);
-        memory.facts();
+        let made = open.make_run::<SHARED_LOOP>(verified, memory, number, context);
         let steps = open.run.steps();
-        let Some(ret) = ended else {
-            self.run.is_open = true;
-            return self.make_last_steps(memory, number, ALL_STEPS - u64::from(steps));
+        match made {
+            Ok(Some(ret)) => Reply::Ended { ret, steps },
+            Ok(None) => {
+                self.run.is_open = true;
+                self.make_last_steps(memory, number, ALL_STEPS - u64::from(steps))
+            }
+            Err(fault) => Reply::Refused(fault),
+        }
+    }
+
+    /// Makes whole runs of a program on one context after the other, from the one with a number on, and writes what each returns: how many
+    /// contexts are done then, or the reply to the first run that doesn't end. It goes no further than a run that asks for an update or
+    /// a deletion, since that one is noted as open.
+    #[inline(always)]
+    pub(crate) fn run_from(
+        &mut self,
+        memory: &mut Memory,
+        number: u32,
+        program: u32,
+        contexts: &[u8],
+        size: usize,
+        rets: &mut [u64],
+        from: usize,
+    ) -> Result<usize, Reply>
+        requires sized { size * length rets.old ≡ length contexts.now }
+        requires from { from < length rets.old }
+        requires kept { IsKept number self.old memory.old }
+        ensures { HasMadeRuns number self.old memory.old program contexts.now size rets.old from result self.new memory.new rets.new }
+    {
+        memory.facts();
+        if self.run.is_open {
+            return Err(Reply::Refused(Fault::Busy));
+        }
+        let Some(verified) = program_of(self.programs.as_slice(), program) else {
+            return Err(Reply::Refused(Fault::NoProgram));
         };
-        Reply::Ended { ret, steps }
+        let open = &mut self.run.latest;
+        open.program = program;
+        let stop = open.make_runs(verified, memory, number, contexts, size, rets, from);
+        let steps = open.run.steps();
+        match stop {
+            Stop::AllEnded => Ok(rets.len()),
+            Stop::Open(index) => {
+                self.run.is_open = true;
+                match self.make_last_steps(memory, number, ALL_STEPS - u64::from(steps)) {
+                    Reply::Ended { ret, steps: _ } => {
+                        rets[index] = ret;
+                        Ok(index + 1)
+                    }
+                    last => Err(last),
+                }
+            }
+            Stop::Refused(fault) => Err(Reply::Refused(fault)),
+        }
     }
 
     /// Makes the steps that are left of the open run: the reply to the last one. The limit is one that the run doesn't reach.

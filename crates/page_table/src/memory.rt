@@ -131,10 +131,11 @@ impl Memory {
         ensures { IfOk result (λ memory. memory ≡ new_memory frames tenants options) }
     {
         let page_indices = tenants * (MAX_MAPS * MAX_PAGES) as u32;
-        let table = Table::new(alloc, frames, page_indices)?;
         let shapes = vec![in alloc; None; tenants as usize * MAX_MAPS]?;
         let pass = Pass::new(alloc, frames, tenants * 8, options)?;
         let tenants = vec![in alloc; Tenant::NO_RUN; tenants as usize]?;
+        // Last, since each way out before it would drop it, and its drop is the one that is dear to prove.
+        let table = Table::new(alloc, frames, page_indices)?;
         Ok(Memory {
             table,
             shapes,

@@ -82,6 +82,18 @@ impl Memory {
         );
     }
 
+    /// Opens a tenant's run as `begin_run` does, where nothing is reserved for it and nothing was: that it is open is all that is
+    /// written.
+    pub fn begin_unreserved(&mut self, tenant: u32)
+        requires there { length (part self.old tenant).maps ≡ 8 }
+        requires none { (part self.old tenant).reserve ≡ 0 }
+        ensures begun { part self.new tenant ≡ with_run 0 (part self.old tenant) }
+        ensures others { OtherTenantsUnchanged tenant self.old self.new }
+        ensures all { self.new ≡ opened self.old tenant 0 }
+    {
+        self.tenants[tenant as usize].running = true;
+    }
+
     /// Ends a tenant's run: no frame is reserved for it, and none of the tenant's pages is pinned. The
     /// call looks at the pages of maps that have pinned ones, and at no others. It is part of each caller, since a short run is
     /// mostly its beginning and its end.

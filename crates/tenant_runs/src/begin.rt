@@ -127,7 +127,7 @@ pub fn reopen_unreserved(
     }
     match run.restart(program, context) {
         Ok(()) => {
-            memory.begin_run(tenant, 0);
+            memory.begin_unreserved(tenant);
             Ok(())
         }
         Err(_) => Err(Fault::OutOfMemory),

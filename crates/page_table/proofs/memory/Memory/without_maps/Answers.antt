@@ -18,13 +18,13 @@ module _ (frames tenants : ℕ) (options : Options) (limits : AreLimits frames t
   unfolding view_of groups_of new_memory
   view_new = rw (no_maps (tenants * 8) (contents_of table), map-replicate {X = Option Entry} (option_map state_of) (tenants * 2048) None, map-replicate {X = Option Entry} (option_map (λ (entry : Entry). entry.frame)) (tenants * 2048) None) refl
 
-shapes : (c : goal.In_ok-tenants) → c.in_ok-shapes.shapes.items ≡ replicate (c.args.tenants * 8) None
+shapes : (c : goal.In_ok-table) → c.in_ok-shapes.shapes.items ≡ replicate (c.args.tenants * 8) None
 shapes c = search rules
 
-tenants : (c : goal.In_ok-tenants) → c.in_ok-tenants.tenants.items ≡ replicate c.args.tenants unreserved_tenant
+tenants : (c : goal.In_ok-table) → c.in_ok-tenants.tenants.items ≡ replicate c.args.tenants unreserved_tenant
 tenants c = search rules
 
-started : (c : goal.In_ok-tenants) → c.in_ok-pass.pass ≡ new_pass c.args.frames (c.args.tenants * 2048) c.args.options
+started : (c : goal.In_ok-table) → c.in_ok-pass.pass ≡ new_pass c.args.frames (c.args.tenants * 2048) c.args.options
 started c = grind (arith, nat_tests)
 
 pub invariant_of-result : goal.invariant_of-result
