@@ -17,10 +17,13 @@ static void note(const struct insn *insn);
 
 enum { FIRST = 20, MOST_FIRST = 256, CODES = 96, CALL = 0x85, LONGEST = 3 };
 
-/* A step: the number of its code, and whether its instruction stands after the one before. */
+/* How a sequence is marked that is made one instruction: always, or where it works on one register. */
+enum { UNMARKED, ALWAYS, ON_ONE_REGISTER };
+
+/* A step: the number of its code, whether its instruction stands after the one before, and whether both name one register first. */
 struct step {
     uint8_t code;
-    bool follows;
+    bool follows, on_one_register;
 };
 
 /* The steps of all runs of a program. */
@@ -68,7 +71,7 @@ static void note(const struct insn *insn)
         noted->steps = wanted(realloc(noted->steps, noted->room * sizeof *noted->steps), "memory ran out");
     }
     bool follows = last != NULL && insn == last + (last->opcode == WIDE ? 2 : 1);
-    noted->steps[noted->count++] = (struct step){code_of(insn), follows};
+    noted->steps[noted->count++] = (struct step){code_of(insn), follows, last != NULL && insn->dst == last->dst};
     last = insn;
 }
 
@@ -134,13 +137,20 @@ static size_t sorted(struct sequence **sequences)
     return count;
 }
 
-/* How many dispatches of a program are saved where these sequences are made one instruction. in_program has 1 for each of them. */
+/* Whether the sequence of so many steps that ends here is made one instruction. */
+static bool is_made_one(const struct step *end, int length)
+{
+    int mark = (int)*counted(in_program, end, length);
+    return mark == ALWAYS || (mark == ON_ONE_REGISTER && end->on_one_register);
+}
+
+/* How many dispatches of a program are saved where the sequences that in_program marks are made one instruction. */
 static double saved_in(const struct trace *trace, int length)
 {
     size_t free = 0;
     double saved = 0;
     for (size_t at = 0; at < trace->count; at++)
-        if (at + 1 >= free + (size_t)length && is_straight(trace, at, length) && *counted(in_program, &trace->steps[at], length) > 0) {
+        if (at + 1 >= free + (size_t)length && is_straight(trace, at, length) && is_made_one(&trace->steps[at], length)) {
             saved += length - 1;
             free = at + 1;
         }
@@ -179,20 +189,33 @@ static const struct form {
     const char *name;
     uint8_t opcode, other;
 } FORMS[] = {
-    {"Mov64", 0xb7, 0xbf}, {"Add64", 0x07, 0x0f}, {"And64", 0x57, 0x5f}, {"Or64", 0x47, 0x4f}, {"Lsh64", 0x67, 0x6f},
-    {"Rsh64", 0x77, 0x7f}, {"Arsh64", 0xc7, 0xcf}, {"LoadImmediate", 0x18, 0x18}, {"LoadByte", 0x71, 0x71}, {"LoadWord", 0x61, 0x61},
+    {"Mov64", 0xb7, 0xbf}, {"Add64", 0x07, 0x0f}, {"Mul64", 0x27, 0x2f}, {"And64", 0x57, 0x5f}, {"Or64", 0x47, 0x4f}, {"Lsh64", 0x67, 0x6f},
+    {"Rsh64", 0x77, 0x7f}, {"Arsh64", 0xc7, 0xcf}, {"Mov32", 0xb4, 0xbc}, {"And32", 0x54, 0x5c}, {"Or32", 0x44, 0x4c}, {"Lsh32", 0x64, 0x6c},
+    {"Rsh32", 0x74, 0x7c}, {"Arsh32", 0xc4, 0xcc}, {"LoadImmediate", 0x18, 0x18}, {"LoadByte", 0x71, 0x71}, {"LoadWord", 0x61, 0x61},
     {"LoadDoubleWord", 0x79, 0x79}, {"StoreDoubleWord", 0x7a, 0x7b}, {"JumpByOffset", 0x05, 0x05}, {"Equal64", 0x15, 0x1d},
-    {"NotEqual64", 0x55, 0x5d}, {"Less64", 0xa5, 0xad}, {"Greater64", 0x25, 0x2d}, {"Call", 0x85, 0x85}, {"Exit", 0x95, 0x95},
+    {"NotEqual64", 0x55, 0x5d}, {"Less64", 0xa5, 0xad}, {"Greater64", 0x25, 0x2d}, {"Equal32", 0x16, 0x1e}, {"Less32", 0xa6, 0xae},
+    {"Call", 0x85, 0x85}, {"Exit", 0x95, 0x95},
 };
 
 /* Marks the codes that two forms have, one after the other. */
-static void mark_pair(const struct form *first, const struct form *second)
+static void mark_pair(const struct form *first, const struct form *second, int mark)
 {
     for (uint32_t a = 0; a < code_count; a++)
         for (uint32_t b = 0; b < code_count; b++)
             if (((opcodes[a] & 255) == first->opcode || (opcodes[a] & 255) == first->other)
                 && ((opcodes[b] & 255) == second->opcode || (opcodes[b] & 255) == second->other))
-                in_program[a][b][0] = 1;
+                in_program[a][b][0] = mark;
+}
+
+/* How the file of codes lists the pair of a name: among the codes, and among those on one register. */
+static int listed(const char *text, const char *name)
+{
+    char code[64], member[64];
+    snprintf(code, sizeof code, " %s,\n", name);
+    snprintf(member, sizeof member, " Code::%s\n", name);
+    if (strstr(text, code) == NULL)
+        return UNMARKED;
+    return strstr(text, member) == NULL ? ALWAYS : ON_ONE_REGISTER;
 }
 
 /* Marks each pair that has a code of its own: how many there are. */
@@ -202,12 +225,11 @@ static int mark_pairs(const char *text)
     int pairs = 0;
     memset(in_program, 0, sizeof in_program);
     for (int at = 0; at < COUNT * COUNT; at++) {
-        char name[64];
-        snprintf(name, sizeof name, " %s%s,\n", FORMS[at / COUNT].name, FORMS[at % COUNT].name);
-        if (strstr(text, name) != NULL) {
-            mark_pair(&FORMS[at / COUNT], &FORMS[at % COUNT]);
-            pairs++;
-        }
+        char name[48];
+        snprintf(name, sizeof name, "%s%s", FORMS[at / COUNT].name, FORMS[at % COUNT].name);
+        int mark = listed(text, name);
+        mark_pair(&FORMS[at / COUNT], &FORMS[at % COUNT], mark);
+        pairs += mark != UNMARKED;
     }
     return pairs;
 }
@@ -258,7 +280,7 @@ static void print_table(int length, size_t first)
     printf("|---|---|---|---|---|\n");
     for (size_t row = 0; row < count && row < first; row++) {
         const uint8_t *code = sequences[row].code;
-        in_program[code[0]][code[1]][length == LONGEST ? code[2] : 0] = 1;
+        in_program[code[0]][code[1]][length == LONGEST ? code[2] : 0] = ALWAYS;
         print_row(&sequences[row], length);
     }
     free(sequences);

@@ -6,6 +6,7 @@
  * It prints 1: the first packet to a port passes. Of a file that is refused it prints why, with the line of C. */
 #include "bpf_host.h"
 #include <stdio.h>
+#include <stdlib.h>
 
 /* An upload, of which at most so many bytes are read, and its program. They are static since they are large. */
 static uint8_t file[1 << 20];
@@ -14,6 +15,15 @@ static struct bpf_host_refused refused;
 
 /* A `struct packet` to port 53. */
 static const uint8_t packet[8] = {53};
+
+/* Ends the program where a call was refused: prints the refusal's name and, of an upload, why. */
+static void must(uint32_t code)
+{
+    if (code != 0) {
+        printf("%s\n%s\n", bpf_host_code_name(code), object.why);
+        exit(1);
+    }
+}
 
 /* Reads an upload, and returns how many bytes it has. */
 static size_t receive(const char *path)
@@ -51,19 +61,17 @@ int main(int argc, char **argv)
     struct bpf_host host = {0};
     struct bpf_host_options options = BPF_HOST_OPTIONS;
     struct bpf_host_run run;
-    uint32_t tenant = 0, program, code;
-    if ((code = bpf_host_new(32, 2, &options, &host)) ||                                    /* 32 frames (pages of 4 KiB) for maps; 2 tenants */
-        (code = bpf_host_read_object(file, size, "admit", 5, 8, &object, &refused)) ||      /* verifies, for contexts of 8 bytes */
-        (code = bpf_host_load_object(&host, tenant, &object, false, &program, &refused)) || /* makes its maps; false: no page is merged */
-        (code = bpf_host_run(&host, tenant, program, packet, 8, &run, &refused)))
-        printf("%s\n%s\n", bpf_host_code_name(code), object.why);
-    else
-        printf("%llu\n", (unsigned long long)run.ret);
-    for (int upload = 2; upload < argc && code == 0; upload++) {
+    uint32_t tenant = 0, program;
+    must(bpf_host_new(32, 2, &options, &host));                                    /* 32 pages of 4 KiB for maps; 2 tenants */
+    must(bpf_host_read_object(file, size, "admit", 5, 8, &object, &refused));      /* links and verifies it; inputs have 8 bytes */
+    must(bpf_host_load_object(&host, tenant, &object, false, &program, &refused)); /* makes its maps; false: no page is merged */
+    must(bpf_host_run(&host, tenant, program, packet, 8, &run, &refused));
+    printf("%llu\n", (unsigned long long)run.ret);
+    for (int upload = 2; upload < argc; upload++) {
         replace(&host, receive(argv[upload]), &tenant, &program);
-        code = bpf_host_run(&host, tenant, program, packet, 8, &run, &refused);
+        must(bpf_host_run(&host, tenant, program, packet, 8, &run, &refused));
         printf("%llu\n", (unsigned long long)run.ret);
     }
     bpf_host_free(&host);
-    return code != 0;
+    return 0;
 }

@@ -84,8 +84,8 @@ pub fn on_value(number: u32) -> Option<Advice>
         ),
         NULL_NOT_CHECKED => (
             "a lookup's answer is used that may be 0",
-            "compare it with 0 first, by JEQ or JNE with 64 bits, and use it on the way on which it \
-            isn't 0",
+            "compare it with 0 first (in C: if (!value) return 0), by JEQ or JNE with 64 bits, and use it \
+            on the way on which it isn't 0",
         ),
         FRAME_WRITTEN => (
             "R10 is written",

@@ -4,7 +4,7 @@ ghost use Rattle.verifier.specs.Verified.{AreShapes};
 use bpf_decode::decode;
 use host_types::limits::MAX_TEXT;
 use host_types::{Refused, Shape};
-use listing::Knowledge;
+use knowledge::Knowledge;
 use reference_verifier::{Order, Table, Verdict, is_lawful, verdict_in};
 use std::alloc::Global;
 use verifier::{Candidate, Verified};
