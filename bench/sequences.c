@@ -20,7 +20,7 @@ enum { FIRST = 20, MOST_FIRST = 256, CODES = 96, CALL = 0x85, LONGEST = 3 };
 /* How a sequence is marked that is made one instruction: always, or where it works on one register. */
 enum { UNMARKED, ALWAYS, ON_ONE_REGISTER };
 
-/* A step: the number of its code, whether its instruction stands after the one before, and whether both name one register first. */
+/* A step: the number of its code, whether its instruction stands after the one before, and whether the field dst of both is the same. */
 struct step {
     uint8_t code;
     bool follows, on_one_register;
@@ -47,8 +47,9 @@ static const struct insn *last;
 static uint16_t opcodes[CODES];
 static uint32_t code_count;
 
-/* What is counted: the runs of each sequence, in one program and as shares. Pairs have code 0 last. */
-static double in_program[CODES][CODES][CODES], of_all[CODES][CODES][CODES], of_programs[CODES][CODES][CODES];
+/* The shares of each sequence, and how it is marked. Pairs have code 0 last. */
+static double of_all[CODES][CODES][CODES], of_programs[CODES][CODES][CODES];
+static uint8_t marks[CODES][CODES][CODES];
 
 static uint8_t code_of(const struct insn *insn)
 {
@@ -106,7 +107,7 @@ static double *counted(double (*table)[CODES][CODES], const struct step *end, in
     return &table[first[0].code][first[1].code][length == LONGEST ? first[2].code : 0];
 }
 
-/* Adds a program's sequences to the shares, and takes them out of its own table again. */
+/* Adds a program's sequences to the shares. */
 static void add_program(const struct trace *trace, int length, double all_steps)
 {
     for (size_t at = 0; at < trace->count; at++)
@@ -140,11 +141,12 @@ static size_t sorted(struct sequence **sequences)
 /* Whether the sequence of so many steps that ends here is made one instruction. */
 static bool is_made_one(const struct step *end, int length)
 {
-    int mark = (int)*counted(in_program, end, length);
+    const struct step *first = end - (length - 1);
+    int mark = marks[first[0].code][first[1].code][length == LONGEST ? first[2].code : 0];
     return mark == ALWAYS || (mark == ON_ONE_REGISTER && end->on_one_register);
 }
 
-/* How many dispatches of a program are saved where the sequences that in_program marks are made one instruction. */
+/* How many dispatches of a program are saved where the marked sequences are made one instruction. */
 static double saved_in(const struct trace *trace, int length)
 {
     size_t free = 0;
@@ -204,7 +206,7 @@ static void mark_pair(const struct form *first, const struct form *second, int m
         for (uint32_t b = 0; b < code_count; b++)
             if (((opcodes[a] & 255) == first->opcode || (opcodes[a] & 255) == first->other)
                 && ((opcodes[b] & 255) == second->opcode || (opcodes[b] & 255) == second->other))
-                in_program[a][b][0] = mark;
+                marks[a][b][0] = (uint8_t)mark;
 }
 
 /* How the file of codes lists the pair of a name: among the codes, and among those on one register. */
@@ -223,7 +225,7 @@ static int mark_pairs(const char *text)
 {
     enum { COUNT = sizeof FORMS / sizeof *FORMS };
     int pairs = 0;
-    memset(in_program, 0, sizeof in_program);
+    memset(marks, 0, sizeof marks);
     for (int at = 0; at < COUNT * COUNT; at++) {
         char name[48];
         snprintf(name, sizeof name, "%s%s", FORMS[at / COUNT].name, FORMS[at % COUNT].name);
@@ -269,7 +271,7 @@ static void print_row(const struct sequence *sequence, int length)
 static void print_table(int length, size_t first)
 {
     struct sequence *sequences;
-    memset(in_program, 0, sizeof in_program);
+    memset(marks, 0, sizeof marks);
     memset(of_all, 0, sizeof of_all);
     memset(of_programs, 0, sizeof of_programs);
     for (uint32_t number = 0; number < trace_count; number++)
@@ -280,7 +282,7 @@ static void print_table(int length, size_t first)
     printf("|---|---|---|---|---|\n");
     for (size_t row = 0; row < count && row < first; row++) {
         const uint8_t *code = sequences[row].code;
-        in_program[code[0]][code[1]][length == LONGEST ? code[2] : 0] = ALWAYS;
+        marks[code[0]][code[1]][length == LONGEST ? code[2] : 0] = ALWAYS;
         print_row(&sequences[row], length);
     }
     free(sequences);

@@ -16,11 +16,18 @@ static struct bpf_host_refused refused;
 /* A `struct packet` to port 53. */
 static const uint8_t packet[8] = {53};
 
-/* Ends the program where a call was refused: prints the refusal's name and, of an upload, why. */
+/* Prints a refusal's name and, of an upload, why: once, since a later refusal has another reason. */
+static void print_refusal(uint32_t code)
+{
+    printf("%s\n%s\n", bpf_host_code_name(code), object.why);
+    object.why[0] = 0;
+}
+
+/* Ends the program where a call was refused. */
 static void must(uint32_t code)
 {
     if (code != 0) {
-        printf("%s\n%s\n", bpf_host_code_name(code), object.why);
+        print_refusal(code);
         exit(1);
     }
 }
@@ -47,12 +54,15 @@ static void unload(struct bpf_host *host, uint32_t tenant, uint32_t program)
 static void replace(struct bpf_host *host, size_t size, uint32_t *tenant, uint32_t *program)
 {
     uint32_t spare = 1 - *tenant, next;
-    if (bpf_host_read_object(file, size, "admit", 5, 8, &object, &refused)) {
-        printf("%s\n", object.why);
-    } else if (bpf_host_load_object(host, spare, &object, false, &next, &refused) == 0) {
-        unload(host, *tenant, *program);
-        *tenant = spare, *program = next;
+    uint32_t code = bpf_host_read_object(file, size, "admit", 5, 8, &object, &refused);
+    if (code == 0)
+        code = bpf_host_load_object(host, spare, &object, false, &next, &refused);
+    if (code != 0) {
+        print_refusal(code);
+        return;
     }
+    unload(host, *tenant, *program);
+    *tenant = spare, *program = next;
 }
 
 int main(int argc, char **argv)

@@ -34,13 +34,13 @@ pub record GoesOn (programs : List (Option Accepted)) (t k : ℕ) (context : Lis
       → HasMadeSteps t (busy_tenant programs kept) after (4294967296 - kept.run.steps) (Some last) new later
       → HasMadeRun t (idle_tenant programs) before k context last new later
 
--- what a whole run came to: it ended, it goes on since it asks for an update or a deletion, or it wasn't begun
+-- what a whole run came to: it ended, it goes on, or it wasn't begun
 abbrev pub HasComeTo : List (Option Accepted) → ℕ → ℕ → List ℕ → MemoryState → Result (Option ℕ) Fault → KeptRun → MemoryState → Type 0
 HasComeTo programs t k context before (Ok (Some ret)) kept after = HasMadeRun t (idle_tenant programs) before k context (Ended ret kept.run.steps) (idle_tenant programs) after
 HasComeTo programs t k context before (Ok None) kept after = GoesOn programs t k context before kept after
 HasComeTo programs t k context before (Err fault) kept after = HasMadeRun t (idle_tenant programs) before k context (Refused fault) (idle_tenant programs) after
 
--- Where the program was run on as many contexts as a call before this one says, it was run on the first n.
+-- Where the program had been run on the first `from` contexts, it has now been run on the first n.
 abbrev pub HaveRunFirst : List (Option Accepted) → ℕ → ℕ → List ℕ → ℕ → List ℕ → ℕ → MemoryState → List ℕ → ℕ → MemoryState → Type 0
 HaveRunFirst programs t k contexts size rets from before written n after =
     (x : System) (tenant : Tenant) → slice_get x.world t ≡ Some tenant → StandsForTenant (idle_tenant programs) tenant → StandsForMemory before x
@@ -65,7 +65,7 @@ pub record HaveStopped (programs : List (Option Accepted)) (t k : ℕ) (contexts
   pub runs : HaveRunFirst programs t k contexts size rets from before written n between
   pub last : StopsWith programs t k contexts size (length rets) n between stopped kept after
 
--- n runs ended, and then nothing stopped them, or a reply that isn't that a run ended
+-- how many contexts are done: with Ok that number, and more than before; with Err fewer than there are
 abbrev pub EndsAt : ℕ → ℕ → ℕ → Result ℕ Reply → Type 0
 EndsAt count from n (Ok ended) = (n ≡ ended) × (from < n) × (n ≤ count)
 EndsAt count from n (Err reply) = (from ≤ n) × (n < count)

@@ -28,8 +28,8 @@ impl OpenRun {
     ghost use Rattle.verifier.specs.Verified.{Accepted};
     ghost use Rattle.host_core.specs.WholeRuns.{IsReady, HasComeTo, HaveStopped};
 
-    /// Makes a whole run of a tenant's program, as far as it goes without an update or a deletion: what it returned, if it ended. It is
-    /// never noted as open, and nothing is recorded as reserved for it: nobody could see that.
+    /// Makes a whole run of a tenant's program, as far as it goes without an update or a deletion: what it returned, if it ended. One that
+    /// ended was never noted as open, and nothing was recorded as reserved for it: nobody could see that. The caller notes one that goes on.
     #[inline(always)]
     fn make_run<const LOOP: u8>(
         &mut self,
