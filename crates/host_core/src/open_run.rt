@@ -11,6 +11,9 @@ use verifier::Verified;
 /// The loop over a tenant's maps (`TenantMaps`) that many runs in one call have alone.
 pub(crate) const LOOP_OF_MANY: u8 = 1;
 
+/// The loop that a run in one call has alone.
+pub(crate) const LOOP_OF_ONE: u8 = 2;
+
 impl OpenRun {
     ghost use Rattle.std.specs.Prelude.{◌≡◌, ◌<◌, slice_get, List, Option, Some};
     ghost use Rattle.verifier.specs.Verified.{Accepted};
@@ -89,8 +92,9 @@ impl OpenRun {
     }
 
     /// Makes steps of the program at its index up to a limit, and none after the first that asks for an update or a deletion in the
-    /// tenant's maps: what the run returned, where it ended. What is reserved afterwards is what the rest of the run may need.
-    #[inline(always)]
+    /// tenant's maps: what the run returned, where it ended. What is reserved afterwards is what the rest of the run may need. It stands
+    /// apart, so that all its callers have one loop.
+    #[inline(never)]
     pub(crate) fn advance(
         &mut self,
         programs: &[Option<Verified>],

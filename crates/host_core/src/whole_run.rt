@@ -1,12 +1,12 @@
 //! Whole runs of a tenant, each in one call or many in one.
 ghost use Rattle.std.specs.Prelude.{◌≡◌, ◌≤◌, ◌<◌, ◌+◌, ◌*◌, Some};
 
-use crate::open_run::LOOP_OF_MANY;
+use crate::open_run::{LOOP_OF_MANY, LOOP_OF_ONE};
 use crate::reply::Reply;
 use crate::tenant::{OpenRun, Tenant, program_of};
 use host_types::Fault;
 use page_table::Memory;
-use tenant_runs::{SHARED_LOOP, reopen_unreserved};
+use tenant_runs::reopen_unreserved;
 use verifier::Verified;
 
 /// More steps than a run makes.
@@ -111,7 +111,7 @@ impl Tenant {
         };
         let open = &mut self.run.latest;
         open.program = program;
-        let made = open.make_run::<SHARED_LOOP>(verified, memory, number, context);
+        let made = open.make_run::<LOOP_OF_ONE>(verified, memory, number, context);
         let steps = open.run.steps();
         match made {
             Ok(Some(ret)) => Reply::Ended { ret, steps },
