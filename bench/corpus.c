@@ -1,11 +1,11 @@
 /* How long whole runs of compiled programs take, in nanoseconds, by the library with a call each and with one for 64, by the C switch of switch.h,
  * and by DPDK's interpreter where it is built in (dpdk.h): corpus [ROUNDS [REPEATS [TEXTS]]]
  *
- * TEXTS is bench/corpus.texts if it is left out. Each program runs on 64 drawn contexts first, by all engines, whose answers, numbers of
- * steps and maps are compared. Then the engines take turns: in each of ROUNDS rounds (9) each goes over the contexts REPEATS times (20),
- * and the medians of a program's rounds count: of its times, and of each round's time over that of the C switch. Programs that the verifier refuses are listed with its numbers. With 0 rounds each engine
- * goes over the contexts once for callgrind, which dumps what it counted there. Exits 1 where engines differ, a call is refused, or the
- * verifier answers another number than the text's line has. */
+ * TEXTS is bench/corpus.texts if it is left out. Each program runs on 64 drawn contexts first, by all engines, whose answers, numbers of steps and
+ * maps are compared. Then the engines take turns: in each of ROUNDS rounds (9) each goes over the contexts REPEATS times (20), and the medians of
+ * a program's rounds count: of its times, and of each round's time over that of the C switch. Programs that the verifier refuses are listed with
+ * its numbers. With 0 rounds each engine goes over the contexts once for callgrind, which dumps what it counted there. Exits 1 where engines
+ * differ, a call is refused, or the verifier answers another number than the text's line has. */
 #define _POSIX_C_SOURCE 200809L
 #include "engines.h"
 
@@ -38,9 +38,9 @@ static void print_row(const struct loaded *loaded)
     const double *ns = loaded->ns;
     printf("| %s | %s | %u |", loaded->program->file, loaded->program->name, loaded->program->slots);
     print_number(loaded->steps, 1);
-    for (int engine = 0; engine < ENGINES; engine++)
+    for (int engine = 0; engine < COMPILED; engine++)
         print_number(ns[engine], 1);
-    for (int engine = 0; engine < ENGINES; engine++)
+    for (int engine = 0; engine < COMPILED; engine++)
         print_number(ns[engine] / loaded->steps, 2);
     print_number(loaded->ratio[LIBRARY], 2);
     print_number(loaded->ratio[DPDK], 2);

@@ -1,14 +1,16 @@
-/* DPDK's interpreter (librte_bpf), to be measured beside the library: where WITH_DPDK is defined, and Debian's libdpdk-dev is there.
+/* DPDK's interpreter and its compiler (librte_bpf), to be measured beside the library: where WITH_DPDK is defined, and Debian's libdpdk-dev is there.
  *
  *     cc -O2 -DWITH_DPDK $(pkg-config --cflags libdpdk) .. -lrte_bpf -lrte_eal
  *
  * It takes texts whose wide instructions have addresses already, as the C switch does, and needs no start of DPDK. A text that it
- * refuses (it knows no jump that compares 32 bits) isn't measured. When it loads a text it also compiles it for this machine, which
- * rte_bpf_exec doesn't use. */
+ * refuses (it knows no jump that compares 32 bits) isn't measured. When it loads a text it also compiles it for this machine. */
 #ifndef DPDK_H
 #define DPDK_H
 
 #include "switch.h"
+
+/* A text that DPDK compiled. */
+typedef uint64_t (*dpdk_function)(void *);
 
 #ifdef WITH_DPDK
 #include <rte_bpf.h>
@@ -95,12 +97,25 @@ static struct rte_bpf *dpdk_load(const struct insn *text, uint32_t slots, const 
     return rte_bpf_load(&prm);
 }
 
+/* What DPDK compiled a text to when it loaded it; NULL where it didn't. */
+static inline dpdk_function dpdk_compiled(const struct rte_bpf *program)
+{
+    struct rte_bpf_jit jit = {.func = NULL};
+    return program != NULL && rte_bpf_get_jit(program, &jit) == 0 ? jit.func : NULL;
+}
+
 #else
 struct rte_bpf;
 
 static inline struct rte_bpf *dpdk_load(const struct insn *text, uint32_t slots, const struct map *maps, uint32_t map_count, uint32_t size)
 {
     (void)text, (void)slots, (void)maps, (void)map_count, (void)size;
+    return NULL;
+}
+
+static inline dpdk_function dpdk_compiled(const struct rte_bpf *program)
+{
+    (void)program;
     return NULL;
 }
 

@@ -1,5 +1,6 @@
 /* Engines that run the programs of corpus.h by turns: the library, the C switch of switch.h, DPDK's interpreter where it is built in
- * (dpdk.h), and the library again with one call for all contexts. A file that includes this defines _POSIX_C_SOURCE first, as 200809L. */
+ * (dpdk.h), the library again with one call for all contexts, and what DPDK compiles. A file that includes this defines _POSIX_C_SOURCE first,
+ * as 200809L. */
 #ifndef ENGINES_H
 #define ENGINES_H
 
@@ -11,9 +12,9 @@
 
 enum { MOST_ROUNDS = 101, PAGE = 4096 };
 
-enum engine { LIBRARY, SWITCH, DPDK, MANY, ENGINES };
+enum engine { LIBRARY, SWITCH, DPDK, MANY, COMPILED, ENGINES };
 
-static const char *const ENGINE_NAMES[ENGINES] = {"library", "switch", "dpdk", "many"};
+static const char *const ENGINE_NAMES[ENGINES] = {"library", "switch", "dpdk", "many", "compiled"};
 
 /* A program that all engines have loaded. DPDK's is NULL where it refuses the program. */
 struct loaded {
@@ -21,8 +22,9 @@ struct loaded {
     /* `many` makes many runs in a call, on contexts that stand one after the other. */
     struct bpf_host host, many;
     uint8_t *contexts;
-    struct linked by_switch, by_dpdk;
+    struct linked by_switch, by_dpdk, by_compiled;
     struct rte_bpf *dpdk;
+    dpdk_function compiled;
     double steps;
     /* Of a run by each engine: the median of its rounds, the least, and the median of each round's time over that of the C switch. */
     double ns[ENGINES], least[ENGINES], ratio[ENGINES];
@@ -78,6 +80,11 @@ static inline uint64_t run_by_dpdk(struct loaded *loaded, const uint8_t *context
     return rte_bpf_exec(loaded->dpdk, (void *)(uintptr_t)context);
 }
 
+static inline uint64_t run_compiled(struct loaded *loaded, const uint8_t *context)
+{
+    return loaded->compiled((void *)(uintptr_t)context);
+}
+
 /* Runs a program on all contexts in one call, and writes what each run returns. */
 static inline void run_many(struct loaded *loaded, uint64_t rets[CONTEXTS])
 {
@@ -109,6 +116,7 @@ static uint64_t runs(enum engine engine, struct loaded *loaded, int repeats)
         switch (engine) {
         case LIBRARY: all = all * 31 + run_by_library(loaded, contexts[run % CONTEXTS], &steps); break;
         case SWITCH: all = all * 31 + run_by_switch(loaded, contexts[run % CONTEXTS], &steps); break;
+        case COMPILED: all = all * 31 + run_compiled(loaded, contexts[run % CONTEXTS]); break;
         default: all = all * 31 + run_by_dpdk(loaded, contexts[run % CONTEXTS]); break;
         }
     return all;
@@ -116,7 +124,7 @@ static uint64_t runs(enum engine engine, struct loaded *loaded, int repeats)
 
 static bool has(const struct loaded *loaded, enum engine engine)
 {
-    return engine != DPDK || loaded->dpdk != NULL;
+    return engine == DPDK ? loaded->dpdk != NULL : engine != COMPILED || loaded->compiled != NULL;
 }
 
 static void differs(const struct loaded *loaded, const char *what, enum engine engine)
@@ -141,16 +149,23 @@ static void compare_host(struct loaded *loaded, struct bpf_host *host, enum engi
     }
 }
 
+/* Compares what the maps of an engine of DPDK hold with those of the C switch. */
+static void compare_linked(struct loaded *loaded, const struct linked *linked, enum engine engine)
+{
+    for (uint32_t map = 0; map < loaded->program->map_count && has(loaded, engine); map++) {
+        const struct map *values = &loaded->by_switch.maps[map];
+        if (memcmp(linked->maps[map].values, values->values, (uint64_t)values->stride * values->entries) != 0)
+            differs(loaded, "a map", engine);
+    }
+}
+
 /* Compares what the engines' maps hold. */
 static void compare_maps(struct loaded *loaded)
 {
     compare_host(loaded, &loaded->host, LIBRARY);
     compare_host(loaded, &loaded->many, MANY);
-    for (uint32_t map = 0; map < loaded->program->map_count && loaded->dpdk; map++) {
-        const struct map *values = &loaded->by_switch.maps[map];
-        if (memcmp(loaded->by_dpdk.maps[map].values, values->values, (uint64_t)values->stride * values->entries) != 0)
-            differs(loaded, "a map", DPDK);
-    }
+    compare_linked(loaded, &loaded->by_dpdk, DPDK);
+    compare_linked(loaded, &loaded->by_compiled, COMPILED);
 }
 
 /* Runs the program on each context by all engines, and compares answers, numbers of steps and maps. */
@@ -170,6 +185,8 @@ static void compare(struct loaded *loaded)
             differs(loaded, "the number of steps", LIBRARY);
         if (loaded->dpdk && run_by_dpdk(loaded, context) != ret)
             differs(loaded, "an answer", DPDK);
+        if (loaded->compiled && run_compiled(loaded, context) != ret)
+            differs(loaded, "an answer", COMPILED);
         all += wanted_steps;
     }
     compare_maps(loaded);
@@ -182,6 +199,12 @@ static inline void release(struct loaded *loaded)
     bpf_host_free(&loaded->host);
     bpf_host_free(&loaded->many);
     free(loaded->contexts);
+}
+
+/* A linked program, loaded by DPDK: NULL where it is refused. */
+static inline struct rte_bpf *loaded_by_dpdk(const struct program *program, const struct linked *linked)
+{
+    return dpdk_load(linked->text, program->slots, linked->maps, program->map_count, program->context_size);
 }
 
 /* Loads a program by all engines and compares them: 0, or what the verifier answers. */
@@ -198,7 +221,9 @@ static inline uint32_t take(const struct program *program, struct loaded *loaded
     }
     link_program(program, &loaded->by_switch);
     link_program(program, &loaded->by_dpdk);
-    loaded->dpdk = dpdk_load(loaded->by_dpdk.text, program->slots, loaded->by_dpdk.maps, program->map_count, program->context_size);
+    link_program(program, &loaded->by_compiled);
+    loaded->dpdk = loaded_by_dpdk(program, &loaded->by_dpdk);
+    loaded->compiled = dpdk_compiled(loaded_by_dpdk(program, &loaded->by_compiled));
     compare(loaded);
     return 0;
 }

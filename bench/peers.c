@@ -1,9 +1,10 @@
 /* How long the library's calls take beside what its peers do for the same, in nanoseconds: peers [ROUNDS [REPEATS [TEXTS]]]
  *
- * First whole runs: of a program of two instructions, of the counter of examples/shared_pages.toml (a lookup, a load and a store), of the parser of
- * examples/packet.c, and of five programs of 20 to 60 steps out of bench/corpus_v2.texts (or TEXTS), whose jumps DPDK knows. Their answers and maps are compared first. Then calls: a lookup and an update
- * of 8 bytes, a visit of a merged page, and a load of 4,096 slots with its unload. The engines take turns; the median of ROUNDS rounds (9)
- * counts, in which each makes REPEATS (20) times as many calls as a row has. Exits 1 where engines differ, or a call is refused. */
+ * First whole runs: of a program of two instructions, of the counter of examples/shared_pages.toml (a lookup, a load and a store), of the parser
+ * of examples/packet.c, and of five programs of 20 to 60 steps out of bench/corpus_v2.texts (or TEXTS), whose jumps DPDK knows. Their answers and
+ * maps are compared first. Then calls: a lookup and an update of 8 bytes, a visit of a merged page, and a load of 4,096 slots with its unload. The
+ * engines take turns; the median of ROUNDS rounds (9) counts, in which each makes REPEATS (20) times as many calls as a row has. Exits 1 where
+ * engines differ, or a call is refused. */
 #define _POSIX_C_SOURCE 200809L
 #include "engines.h"
 
@@ -76,8 +77,8 @@ static void print_runs(int rounds, int repeats)
 {
     static struct program two = {.file = "two", .name = "instructions", .slots = 2};
     static struct program counter = {.file = "shared_pages.toml", .name = "counter", .slots = 14, .map_count = 1, .shapes = {{1, 8, 8, NULL}}};
-    printf("| ns a run | steps | library | C switch | DPDK | library, 64 a call | library / switch | DPDK / switch | 64 a call / switch |\n"
-           "|---|---|---|---|---|---|---|---|---|\n");
+    printf("| ns a run | steps | library | C switch | DPDK | library, 64 a call | DPDK, compiled | library / switch | DPDK / switch | 64 a call / switch |\n"
+           "|---|---|---|---|---|---|---|---|---|---|\n");
     print_run(with_text(&two, RETURN_42), rounds, repeats);
     print_run(with_text(&counter, COUNTER), rounds, repeats);
     for (size_t at = 0; at < sizeof TAKEN / sizeof *TAKEN; at++)
