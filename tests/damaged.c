@@ -81,10 +81,10 @@ static void take_object(uint32_t context_size)
 /* Loads the object that was read: its maps lack frames, or it runs. */
 static void run_object(const struct view *before, uint64_t *state)
 {
-    uint32_t number = UNTOLD;
+    uint32_t number = UNWRITTEN;
     uint32_t code = bpf_host_load_object(&host, GUEST, object, below(state, 2) == 0, &number, &refused);
     if (code != 0) {
-        check_refusal(code, code == BPF_HOST_NO_FRAMES && number == UNTOLD, before);
+        check_refusal(code, code == BPF_HOST_NO_FRAMES && number == UNWRITTEN, before);
         return;
     }
     compare_runs(&(struct loaded){number, subject.slots, false}, state);
@@ -158,13 +158,13 @@ static void take_text(size_t len)
 /* Lowers a text that is refused. Where that helps, the lowered text runs as the damaged one does; else the refusal is the same. */
 static void try_lowered(const uint8_t *text, size_t len, const struct bpf_host_shape *shapes, uint32_t refusal, uint64_t *state)
 {
-    struct loaded loaded = {UNTOLD, 0, true};
-    size_t written = UNTOLD;
+    struct loaded loaded = {UNWRITTEN, 0, true};
+    size_t written = UNWRITTEN;
     uint8_t *lowered = text_room.begin;
     uint32_t maps = subject.map_count, size = subject.context_size, slot = refused.slot;
     uint32_t code = bpf_host_lower(text, len, shapes, maps, size, lowered, text_room.room, &written, &refused);
     if (code != 0) {
-        must(code == refusal && refused.slot == slot && written == UNTOLD, "bpf_host_lower refuses in another way", code);
+        must(code == refusal && refused.slot == slot && written == UNWRITTEN, "bpf_host_lower refuses in another way", code);
         return;
     }
     must(written % SLOT == 0 && written <= text_room.room, "a lowered text has no such length", written);
@@ -192,7 +192,7 @@ static void try_explained(const uint8_t *text, size_t len, const struct bpf_host
 static void try_text(uint64_t *state)
 {
     struct bpf_host_shape shapes[MAPS];
-    uint32_t number = UNTOLD;
+    uint32_t number = UNWRITTEN;
     subject = programs[below(state, program_count)];
     size_t len = damaged_text(&subject, copy, state);
     const uint8_t *text = before_fence(&file_room, copy, len);
@@ -209,7 +209,7 @@ static void try_text(uint64_t *state)
         compare_runs(&(struct loaded){number, subject.slots, false}, state);
         texts.accepted++, texts.runs += RUNS;
     } else {
-        check_refusal(code, is_rule(code) && number == UNTOLD, &before);
+        check_refusal(code, is_rule(code) && number == UNWRITTEN, &before);
         refused = verified;
         try_lowered(text, len, shapes, code, state);
     }

@@ -31,7 +31,7 @@ enum {
     TENANTS = 2,
     NUMBERS = 8,       /* maps and programs have numbers below this */
     LAST_RULE = 25,
-    UNTOLD = 987654    /* what a number is that no call wrote: no slot, frame, map, program */
+    UNWRITTEN = 987654    /* what a number is that no call wrote: no slot, frame, map, program */
 };
 
 static struct fenced context_room;
@@ -131,7 +131,7 @@ static struct view view(void)
 {
     struct view seen = {{seen_tenant(HOME), seen_tenant(GUEST)}, {0}};
     must(bpf_host_counters(&host, &seen.counters) == 0, "no counters", 0);
-    refused = (struct bpf_host_refused){UNTOLD, UNTOLD, UNTOLD};
+    refused = (struct bpf_host_refused){UNWRITTEN, UNWRITTEN, UNWRITTEN};
     return seen;
 }
 
@@ -144,9 +144,9 @@ static bool is_rule(uint32_t code)
 static void check_refusal(uint32_t code, bool may_return, const struct view *before)
 {
     must(may_return, "a call returns what it may not", code);
-    must(is_rule(code) ? refused.slot < SLOTS : refused.slot == UNTOLD, "a refusal names a slot", refused.slot);
+    must(is_rule(code) ? refused.slot < SLOTS : refused.slot == UNWRITTEN, "a refusal names a slot", refused.slot);
     bool lacks_frames = code == BPF_HOST_NO_FRAMES;
-    must(lacks_frames ? refused.need > refused.have : refused.need == UNTOLD && refused.have == UNTOLD, "a refusal speaks of frames", refused.need);
+    must(lacks_frames ? refused.need > refused.have : refused.need == UNWRITTEN && refused.have == UNWRITTEN, "a refusal speaks of frames", refused.need);
     struct view after = view();
     must(memcmp(before, &after, sizeof after) == 0, "a refusal changed the host", code);
 }
@@ -161,7 +161,7 @@ struct loaded {
 static void compare_run(const struct linked *linked, const struct loaded *loaded, const uint8_t *bytes)
 {
     const uint8_t *context = before_fence(&context_room, bytes, subject.context_size);
-    struct bpf_host_run run = {UNTOLD, UNTOLD};
+    struct bpf_host_run run = {UNWRITTEN, UNWRITTEN};
     uint32_t steps = 0, code = bpf_host_run(&host, GUEST, loaded->number, context, subject.context_size, &run, &refused);
     must(code == 0, "a run is refused", code);
     must(run.steps >= 1 && run.steps <= loaded->slots, "a run has too many steps, or none", run.steps);

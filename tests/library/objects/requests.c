@@ -49,6 +49,8 @@ int main(int words, char **word)
     uint32_t program;
     FILE *file = words > 1 ? fopen(word[1], "rb") : NULL;
     size_t len = file ? fread(bytes, 1, sizeof bytes, file) : 0;
+    if (file)
+        fclose(file);
     must(bpf_host_read_object(bytes, len, "answer", 6, sizeof(struct request), &object, &refused));
     must(bpf_host_new(8, 1, &options, &host));
     must(bpf_host_load_object(&host, 0, &object, false, &program, &refused));
