@@ -50,39 +50,40 @@ pub fn on_refused(refused: Refused, text: &[u8]) -> Option<Advice>
 fn on_length(text: &[u8]) -> Advice {
     if text.is_empty() {
         Advice {
-            wrong: "the text is empty",
-            mend: "give 1 to 4096 slots of eight bytes; a HEX that is made from a file is empty where \
-                that wasn't written",
+            wrong: "the program is empty",
+            fix: "give 1 to 4096 slots of eight bytes; if HEX comes from a file, check that the \
+                file was written",
         }
     } else if text.len() > MAX_TEXT {
         Advice {
-            wrong: "the text is longer than 4096 slots",
-            mend: "make the program shorter, or two of it",
+            wrong: "the program is longer than 4096 slots",
+            fix: "make the program shorter, or split it into two",
         }
     } else {
         Advice {
-            wrong: "the text ends inside a slot",
-            mend: "give whole slots of eight bytes",
+            wrong: "the program's length isn't a multiple of eight bytes",
+            fix: "give whole slots of eight bytes",
         }
     }
 }
 
-/// An opcode of an instruction that the host doesn't take.
+/// An opcode of an instruction that the host doesn't support.
 fn on_opcode(opcode: u8) -> Option<Advice> {
     if opcode & 0xe7 == ATOMIC {
         return Some(Advice {
-            wrong: "an atomic instruction isn't taken",
-            mend: "load, compute and store: a program runs alone on its memory",
+            wrong: "atomic instructions aren't supported",
+            fix: "load, compute and store instead: while a program runs, it has its memory to \
+                itself",
         });
     }
     match opcode {
         0x8d => Some(Advice {
-            wrong: "a call by a register isn't taken",
-            mend: "call a helper by its number, and inline functions",
+            wrong: "calls through a register aren't supported",
+            fix: "call a helper by its number, and inline functions",
         }),
         0x20 | 0x28 | 0x30 | 0x40 | 0x48 | 0x50 => Some(Advice {
-            wrong: "the old loads from a packet aren't taken",
-            mend: "load from the context, to which R1 points",
+            wrong: "legacy packet access instructions (ABS and IND) aren't supported",
+            fix: "load from the context, which R1 points to at the start",
         }),
         _ => None,
     }
@@ -90,62 +91,65 @@ fn on_opcode(opcode: u8) -> Option<Advice> {
 
 /// A field with a number that means nothing there.
 fn on_field(insn: &Insn) -> Option<Advice> {
-    let (wrong, mend) = match Operation::of(insn.opcode)? {
+    let (wrong, fix) = match Operation::of(insn.opcode)? {
         Operation::Call if insn.src != 0 => return Some(on_callee(insn)),
         Operation::LoadImmediate => (
-            "this form of the wide instruction isn't taken",
-            "load a number with src 0; name a map with src 1, the second half 0; or take an address in \
-                a map's first value with src 2, its offset in the second half's imm; the second half's \
-                other fields are 0",
+            "this form of the wide instruction isn't supported",
+            "use src 0 to load a number; src 1 to load a map's name, with 0 in the second half; or \
+                src 2 for an address in a map's first value, with its offset in the second half's \
+                imm; the second half's other fields must be 0",
         ),
         Operation::Alu {
             code: AluCode::Div | AluCode::Mod,
             ..
         } => (
-            "a division has an offset other than 0 and 1, or a field that it doesn't use",
-            "give offset 0, or 1 for a signed one, and 0 in the other fields",
+            "a division or modulo has an offset other than 0 and 1, or sets a field that it \
+                doesn't use",
+            "use offset 0, or 1 if it is signed, and 0 in the unused fields",
         ),
         Operation::Alu {
             code: AluCode::Mov,
             source: Source::Register,
             ..
         } => (
-            "a move has an offset other than 0, 8, 16 and, with 64 bits, 32, or an imm",
-            "give one of these, and 0 in imm",
+            "a register move has an offset other than 0, 8, 16 and (64 bits only) 32, or an imm \
+                other than 0",
+            "use one of these offsets, and 0 in imm",
         ),
         Operation::Alu {
             code: AluCode::ToLittleEndian | AluCode::ToBigEndian | AluCode::SwapBytes,
             ..
         } => (
-            "a byte swap has a width other than 16, 32 and 64, or a field that it doesn't use",
-            "give one of these in imm, and 0 in the other fields",
+            "a byte swap has a width other than 16, 32 and 64, or sets a field that it doesn't use",
+            "use one of these widths in imm, and 0 in the unused fields",
         ),
         _ => (
             "a field that the instruction doesn't use isn't 0",
-            "write 0 in it",
+            "set it to 0",
         ),
     };
-    Some(Advice { wrong, mend })
+    Some(Advice { wrong, fix })
 }
 
 /// A call of something other than a helper.
 fn on_callee(insn: &Insn) -> Advice {
     if insn.src != LOCAL_CALL {
         return Advice {
-            wrong: "a call with this field src isn't taken",
-            mend: "call a helper by its number, with src 0",
+            wrong: "a call with this src field isn't supported",
+            fix: "call a helper by its number, with src 0",
         };
     }
     if insn.imm == UNLINKED {
         Advice {
-            wrong: "a call that a linker was to fill in isn't taken, as of a library's `memcmp`",
-            mend: "write the function out and inline it; in C, `__builtin_memcpy` and `__builtin_memset` \
-                of constant sizes need none",
+            wrong: "a call that a linker should have resolved isn't supported, such as one of a \
+                library's `memcmp`",
+            fix: "define the function in the program and inline it; in C, `__builtin_memcpy` and \
+                `__builtin_memset` of constant sizes need no call",
         }
     } else {
         Advice {
-            wrong: "a call of a function of the program's own isn't taken",
-            mend: "inline it: in C mark it `static inline __attribute__((always_inline))`",
+            wrong: "a call of a program-local function isn't supported",
+            fix: "inline it: in C mark it `static inline __attribute__((always_inline))`",
         }
     }
 }
@@ -154,15 +158,16 @@ fn on_callee(insn: &Insn) -> Advice {
 fn on_back_jump(text: &[u8], slot: u32) -> Advice {
     if loop_closed(text, slot).is_some() {
         Advice {
-            wrong: "a jump closes a loop",
-            mend: "the program `lower` copies loops as often as their values let them run, if they are \
-                bounded: in C bound a count, as `n = min(n, 40)`, count up, and give a loop that no number \
-                ends a count of its own",
+            wrong: "a backward jump forms a loop",
+            fix: "use the program `lower`, which unrolls loops as often as they can run, if their \
+                values are bounded: in C bound the count, as in `n = min(n, 40)`, count up, and \
+                add a counter to a loop that has none, such as `while (x)`",
         }
     } else {
         Advice {
-            wrong: "a jump leads back, though it closes no loop",
-            mend: "the program `lower` puts the blocks in an order in which jumps lead forward alone",
+            wrong: "a jump leads backward, though it forms no loop",
+            fix: "use the program `lower`, which reorders the blocks so that all jumps lead \
+                forward",
         }
     }
 }
@@ -175,81 +180,84 @@ fn on_target(insn: &Insn, text: &[u8], slot: u32) -> Option<Advice> {
         _ => return None,
     };
     let target = i64::from(slot) + 1 + i64::from(distance);
-    let (wrong, mend) = match usize::try_from(target) {
+    let (wrong, fix) = match usize::try_from(target) {
         Ok(target) if target < text.len() / 8 => (
             "a jump leads into the second half of a wide instruction",
             "count two slots for a wide instruction",
         ),
         _ => (
-            "a jump leads past the end of the text",
-            "count slots from the next instruction; the last target is the last instruction",
+            "a jump leads past the end of the program",
+            "count the offset in slots from the next instruction; the last possible target is the \
+                last instruction",
         ),
     };
-    Some(Advice { wrong, mend })
+    Some(Advice { wrong, fix })
 }
 
 /// A value of a kind that the instruction doesn't take.
 fn on_kind(insn: &Insn) -> Option<Advice> {
-    let (wrong, mend) = match Operation::of(insn.opcode)? {
+    let (wrong, fix) = match Operation::of(insn.opcode)? {
         Operation::Load { .. } => (
-            "a load goes through a number or a map's name",
-            "load through R1, R10, a lookup's answer, an address in a map's first value, or a copy of \
-                one of them",
+            "a load's base register holds a number or a map's name, not an address",
+            "load through R1, R10, a pointer that a lookup returned, an address in a map's first \
+                value, or a copy of one of them",
         ),
         Operation::Store { .. } => (
-            "a store goes through a number or a map's name, or into the context",
-            "store to the stack, through R10 or a copy of it, or through a lookup's answer",
+            "a store's base register holds a number, a map's name or an address in the context",
+            "store to the stack, through R10 or a copy of it, or through a pointer that a lookup \
+                returned",
         ),
         Operation::Branch { .. } => (
             "an address is compared",
-            "compare numbers, and a lookup's answer with 0 once",
+            "compare only numbers; check a pointer that a lookup returned for NULL just once",
         ),
         Operation::Alu {
             code: AluCode::Add,
             width: Width::Bits64,
             source: Source::Register,
         } => (
-            "a number that isn't constant is added to an address of the context or the stack, or an \
-                address is added",
-            "add constants alone there: in C give each its arm of a `switch`, with \
-                `asm volatile(\"\" : \"+r\"(x))` behind the load of x in each arm; add a number to a \
-                lookup's answer, not the answer to it",
+            "a number that isn't constant is added to an address in the context or on the stack, \
+                or the source register holds an address",
+            "add only constants to such an address: in C use a `switch` with a case for each \
+                constant, and `asm volatile(\"\" : \"+r\"(x))` after the load of x in each case; \
+                add a number to a pointer that a lookup returned, not the pointer to a number",
         ),
         Operation::Alu { .. } => (
-            "this arithmetic isn't taken on an address",
-            "copy an address with 64 bits, and add or subtract constants alone; to one in a map's \
-            value numbers may be added",
+            "this arithmetic isn't allowed on an address",
+            "copy an address with a 64-bit move, and add or subtract only constants; to an address \
+                in a map's value, other numbers may be added too",
         ),
         Operation::Call => return on_arguments(insn),
         _ => return None,
     };
-    Some(Advice { wrong, mend })
+    Some(Advice { wrong, fix })
 }
 
 /// An argument of a call of a kind that the helper doesn't take.
 fn on_arguments(insn: &Insn) -> Option<Advice> {
-    let (wrong, mend) = match MapHelper::of(insn.immediate())? {
+    let (wrong, fix) = match MapHelper::of(insn.immediate())? {
         MapHelper::Lookup | MapHelper::Delete => (
-            "R1 doesn't hold a map's name, or R2 no address of the stack or the context",
-            "name the map by the wide instruction with src 1, and store the key on the stack",
+            "R1 doesn't hold a map's name, or R2 doesn't hold an address on the stack or in the \
+                context",
+            "load the map's name by a wide instruction with src 1, and store the key on the stack",
         ),
         MapHelper::Update => (
-            "R1 doesn't hold a map's name, R2 or R3 no address of the stack or the context, or R4 \
-            no number",
-            "name the map by the wide instruction with src 1, store key and value on the stack, \
-            and give 0 as flags",
+            "R1 doesn't hold a map's name, R2 or R3 doesn't hold an address on the stack or in the \
+                context, or R4 doesn't hold a number",
+            "load the map's name by a wide instruction with src 1, store key and value on the \
+                stack, and pass 0 as flags",
         ),
     };
-    Some(Advice { wrong, mend })
+    Some(Advice { wrong, fix })
 }
 
 /// Bytes of the stack that a helper would read.
 fn on_unset_bytes(insn: &Insn) -> Option<Advice> {
     match Operation::of(insn.opcode)? {
         Operation::Call => Some(Advice {
-            wrong: "the helper would read bytes of the stack that weren't all stored",
-            mend: "store the four bytes of the key, and of an update's value as many as the map's \
-                `value_size` says: in C set a struct that has padding to 0 by `__builtin_memset` first",
+            wrong: "the helper would read bytes of the stack that aren't all initialized",
+            fix: "store all four bytes of the key, and all `value_size` bytes of an update's \
+                value: in C first set a struct that has padding to 0 with `__builtin_memset`",
         }),
         _ => None,
     }
@@ -258,74 +266,74 @@ fn on_unset_bytes(insn: &Insn) -> Option<Advice> {
 /// A number that is added to an address in a map's value, an access there, or an offset in its first
 /// value.
 fn on_reach(insn: &Insn) -> Option<Advice> {
-    let (wrong, mend) = match Operation::of(insn.opcode)? {
+    let (wrong, fix) = match Operation::of(insn.opcode)? {
         Operation::Alu {
             source: Source::Register,
             ..
         } => (
-            "the number may lead more than 65536 bytes away from the map's value",
-            "bound it before: mask it, or compare it as an unsigned number of 64 bits. A signed \
-                compare bounds nothing, and one with the low 32 bits just a number below 2^32. In C a \
-                compare after a remainder, or one that can't fail, is left out: put \
-                `asm volatile(\"\" : \"+r\"(i))` before it",
+            "the address may end up more than 65536 bytes from the beginning of the map's value",
+            "bound the number first: mask it, or compare it as an unsigned 64-bit number. A signed \
+                comparison bounds nothing, and a 32-bit one only a number below 2^32. In C the \
+                compiler drops a comparison after a remainder, or one that can't fail: put `asm \
+                volatile(\"\" : \"+r\"(i))` before it",
         ),
         Operation::Load { .. } | Operation::Store { .. } => (
-            "the access may lie outside the map's value",
-            "compare the index, as an unsigned number of 64 bits, with how many there are before it \
-                is added, or mask it, so that the whole access lies in the value; or make the map \
-                with larger values",
+            "the access may be outside the map's value",
+            "before adding the index, compare it, as an unsigned 64-bit number, with the array's \
+                length, or mask it, so that the whole access is inside the value; or give the map \
+                larger values",
         ),
         Operation::LoadImmediate => (
-            "the offset isn't less than the bytes of the map's first value",
-            "give a smaller offset in the second half's imm, or make the map with larger values",
+            "the offset isn't less than the size of the map's values",
+            "use a smaller offset in the second half's imm, or give the map larger values",
         ),
         _ => return None,
     };
-    Some(Advice { wrong, mend })
+    Some(Advice { wrong, fix })
 }
 
 /// An address that may be no multiple of what it has to be.
 fn on_alignment(insn: &Insn) -> Option<Advice> {
-    let (wrong, mend) = match Operation::of(insn.opcode)? {
+    let (wrong, fix) = match Operation::of(insn.opcode)? {
         Operation::Load { .. } | Operation::Store { .. } => (
-            "the place of the access may be no multiple of its size",
-            "use multiples of the size; an index keeps them by a shift to the left, or by a mask \
-                without the low bits; in C mark the struct `__attribute__((packed))`, or copy the field by \
-                `__builtin_memcpy` from a `char *`, as of a struct of a kernel header",
+            "the access may be misaligned: its address must be a multiple of its size",
+            "use only multiples of the size: shift an index left, or mask off its low bits; in C \
+                mark the struct `__attribute__((packed))`, or copy the field with \
+                `__builtin_memcpy` from a `char *`, as for a struct of a kernel header",
         ),
         Operation::Call => (
-            "the key's place is no multiple of 4",
-            "let it lie at one: in C look up by a `u32` of its own",
+            "the key is misaligned: its address must be a multiple of 4",
+            "put it at a multiple of 4: in C use a `u32` variable of its own as the key",
         ),
         _ => return None,
     };
-    Some(Advice { wrong, mend })
+    Some(Advice { wrong, fix })
 }
 
 /// An address that would leave the program, or be taken apart.
 fn on_leak(insn: &Insn) -> Option<Advice> {
-    let (wrong, mend) = match Operation::of(insn.opcode)? {
+    let (wrong, fix) = match Operation::of(insn.opcode)? {
         Operation::Exit => ("the program returns an address", "return a number in R0"),
         Operation::Store {
             size: Size::DoubleWord,
             ..
         } => (
             "an address is stored in a map",
-            "store numbers in maps, and addresses on the stack",
+            "store only numbers in maps, and addresses only on the stack",
         ),
         Operation::Store { .. } => (
             "an address is stored in fewer than eight bytes",
             "store it as a double word on the stack",
         ),
         Operation::Load { .. } => (
-            "a part of an address is loaded from the stack",
+            "part of an address is loaded from the stack",
             "load it as a double word",
         ),
         Operation::Call => (
-            "the helper would read a part of an address from the stack",
+            "the helper would read part of an address from the stack",
             "store the key, or the value, there first",
         ),
         _ => return None,
     };
-    Some(Advice { wrong, mend })
+    Some(Advice { wrong, fix })
 }

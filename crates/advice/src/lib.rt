@@ -24,8 +24,8 @@ pub use loops::loop_closed;
 pub struct Advice {
     /// What is wrong, without a full stop.
     pub wrong: &'static str,
-    /// How to mend it.
-    pub mend: &'static str,
+    /// How to fix it.
+    pub fix: &'static str,
 }
 
 /// The advice on a refusal by its number. There is one for each number that a host or a `check` can

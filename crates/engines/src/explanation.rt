@@ -189,7 +189,7 @@ fn wrong_option(options: &Options) -> Option<Opt> {
     None
 }
 
-/// Writes the refusal of a text: the slot that it names and what stands there, the rule, and how to mend
+/// Writes the refusal of a text: the slot that it names and what stands there, the rule, and how to fix
 /// it.
 fn explain_program<W: Write>(diagnostics: &mut W, text: &[u8], refused: Refused) -> io::Result<()> {
     write!(diagnostics, "slot {}: ", refused.slot)?;
@@ -204,7 +204,7 @@ fn write_advice<W: Write>(
     advice: Option<Advice>,
 ) -> io::Result<()> {
     match advice {
-        Some(advice) => write!(diagnostics, "{}; {}", advice.wrong, advice.mend),
+        Some(advice) => write!(diagnostics, "{}; {}", advice.wrong, advice.fix),
         None => write!(diagnostics, "{}", fault.name()),
     }
 }

@@ -15,9 +15,9 @@ use text::print_instructions;
 
 /// What stands above the rows.
 const HEAD: &str = "# Refusals\n\n\
-    What is wrong where the host or `check` refuses something, and how to mend it. docs/HOST.md says when\n\
+    What is wrong where the host or `check` refuses something, and how to fix it. docs/HOST.md says when\n\
     they do.\n\n\
-    | number | name | what is wrong | how to mend it |\n\
+    | number | name | what is wrong | how to fix it |\n\
     |---|---|---|---|";
 
 /// The largest number of a refusal.
@@ -55,8 +55,8 @@ fn main(rt: HostRuntime) -> io::Result<()> {
         if let (Some(fault), Some(advice)) = (fault_of(number), advice_on(number)) {
             let name = fault.name();
             let wrong = advice.wrong;
-            let mend = advice.mend;
-            println!(rt; "| {number} | {name} | {wrong} | {mend} |")?;
+            let fix = advice.fix;
+            println!(rt; "| {number} | {name} | {wrong} | {fix} |")?;
         }
     }
     print_instructions(&rt)

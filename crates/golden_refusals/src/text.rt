@@ -5,8 +5,8 @@ use host_types::Refused;
 use std::io;
 
 /// What stands above the rows.
-const HEAD: &str = "\n## Of a text\n\n\
-    What is wrong by the slot that is refused, or by the length of the text.\n\n\
+const HEAD: &str = "\n## By instruction\n\n\
+    What is wrong by the instruction at the refused slot, or by the length of the program.\n\n\
     | number | slot | what is wrong |\n\
     |---|---|---|";
 

@@ -10,7 +10,7 @@ const BAD_OBJECT: u32 = 103;
 
 /// The words for a size that no context may have. They take no memory.
 const BAD_CONTEXT: &str =
-    "refused 39 BadContext\nthis size of contexts is above 256 or no multiple of 8";
+    "refused 39 BadContext\nthe context size is above 256 or isn't a multiple of 8";
 
 /// Why there is no program, and words for that.
 #[derive(Drop)]

@@ -310,12 +310,17 @@ function onClick(event) {
 
 /* ---- The page ---- */
 
+/** What a map's shape V:E says. */
+function shapeOf(words, map) {
+    const [size, count] = words.split(":").map(Number);
+    return "map " + map + ": " + count + (count === 1 ? " value of " : " values of ") + size + (size === 1 ? " byte" : " bytes");
+}
+
 function makeHeader() {
     const title = data.accepted ? make("span", "badge good", "Accepted") : make("span", "badge bad", "Refused");
     const header = make("header", "", null, make("h1", "", null, title, make("span", "program", data.program)));
     const facts = make("p", "facts", null, make("b", "verdict", data.verdict));
-    const shapes = data.maps.map((shape, map) => map + ": " + shape);
-    if (shapes.length) facts.append(" \u00b7 maps " + shapes.join(", "));
+    if (data.maps.length) facts.append(" \u00b7 " + data.maps.map(shapeOf).join(", "));
     facts.append(" \u00b7 context of " + data.context + " bytes");
     if (data.lowered) facts.append(" \u00b7 lowered, with the slots of the original");
     header.append(facts);

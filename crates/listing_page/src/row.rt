@@ -173,7 +173,7 @@ impl<'a> Rows<'a> {
         write!(output, "]")
     }
 
-    /// Writes a refusal: its number and name, what is wrong, how to mend it, and what is known at its slot.
+    /// Writes a refusal: its number and name, what is wrong, how to fix it, and what is known at its slot.
     fn write_refused<W: Write>(&self, output: &mut W, refused: Refused) -> io::Result<()> {
         let alloc = self.listing.alloc();
         write!(
@@ -185,8 +185,8 @@ impl<'a> Rows<'a> {
         if let Some(advice) = advice_on_text(refused, self.listing.checked().text) {
             write!(output, ",\"wrong\":")?;
             write_string(alloc, output, advice.wrong)?;
-            write!(output, ",\"mend\":")?;
-            write_string(alloc, output, advice.mend)?;
+            write!(output, ",\"fix\":")?;
+            write_string(alloc, output, advice.fix)?;
         }
         write!(output, ",\"known\":")?;
         let words = self.findings(refused)?;

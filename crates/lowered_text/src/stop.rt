@@ -49,7 +49,7 @@ fn write_rule<E: Write>(
         write!(errors, ": {insn}")?;
     }
     match advice_on_text(refused, text) {
-        Some(advice) => write!(errors, ": {}; {}", advice.wrong, advice.mend),
+        Some(advice) => write!(errors, ": {}; {}", advice.wrong, advice.fix),
         None => Ok(()),
     }
 }
