@@ -199,6 +199,18 @@ asked_at v t s n (Lookup m key) run released memory some going follows = absurd 
 asked_at v t s n (Update m key flags) run released memory some going follows = asked_by v t s n (Update m key flags) run released memory follows
 asked_at v t s n (Delete m key) run released memory some going follows = asked_by v t s n (Delete m key) run released memory follows
 
+-- so it is an update or a deletion
+pub asks_to_change : (v : Accepted) (t : ℕ) (s : MachineState) (n : ℕ) (need : Need) (run : Running) (released memory : MemoryState) → (need ≡ Private → ⊥) → ((number : ℕ) → need ≡ Ended number → ⊥)
+    → ((m key flags : ℕ) → need ≡ Update m key flags → ⊥) → ((m key : ℕ) → need ≡ Delete m key → ⊥)
+    → FollowsOn (maps_of_part t) (HasStoreFrames t) (HasStored t) v s released n need run memory → ⊥
+asks_to_change v t s n Private run released memory some going update delete follows = some refl
+asks_to_change v t s n (Ended number) run released memory some going update delete follows = going number refl
+asks_to_change v t s n (Load m at size) run released memory some going update delete follows = follows
+asks_to_change v t s n (Store m at size number) run released memory some going update delete follows = follows
+asks_to_change v t s n (Lookup m key) run released memory some going update delete follows = follows
+asks_to_change v t s n (Update m key flags) run released memory some going update delete follows = update m key flags refl
+asks_to_change v t s n (Delete m key) run released memory some going update delete follows = delete m key refl
+
 -- it asks of its tenant's part
 pub asking_at : (v : Accepted) (t : ℕ) (s : MachineState) (n : ℕ) (need : Need) (run : Running) (before released memory : MemoryState) → IsStarted v t s before released → (asked : IsAskedAt v t s n need run released memory) → IsAsking v asked.here need run (part_with_have memory t)
 asking_at v t s n need run before released memory start asked =

@@ -1,9 +1,17 @@
 //! The steps of an open run, and what they leave to do in the memory of all.
-ghost use Rattle.std.specs.Prelude.{◌≡◌, min};
+ghost use Rattle.std.specs.Prelude.{◌≡◌, min, Some};
+ghost use Rattle.page_table.specs.State.{part};
+ghost use Rattle.page_table.specs.Changes.{OtherTenantsUnchanged};
+ghost use Rattle.admission.specs.Reserve.{needed_from};
+ghost use Rattle.interp.specs.declared.need.Need.TheVariants.{Update, Delete};
+ghost use Rattle.interp.specs.Machine.{MachineState, Next, step};
+ghost use Rattle.tenant_runs.specs.Fulfilment.{sharing_fulfilled, KeepsSizes};
+ghost use Rattle.tenant_runs.specs.UnderWay.{IsUnderWay, IsAsking, part_with_have};
 
 use crate::tenant::OpenRun;
 use admission::{needed, record_left, release};
-use interp::Need;
+use host_types::MapNo;
+use interp::{Need, Run};
 use page_table::Memory;
 use tenant_runs::{SHARED_LOOP, TenantMaps, answer};
 use verifier::Verified;
@@ -13,6 +21,9 @@ pub(crate) const LOOP_OF_MANY: u8 = 1;
 
 /// The loop that a run in one call has alone.
 pub(crate) const LOOP_OF_ONE: u8 = 2;
+
+/// More steps than a run makes.
+pub(crate) const ALL_STEPS: u64 = 4294967296;
 
 impl OpenRun {
     ghost use Rattle.std.specs.Prelude.{◌≡◌, ◌<◌, slice_get, List, Option, Some};
@@ -118,13 +129,13 @@ impl OpenRun {
         // All that is reserved for the run may be had while it makes its steps.
         record_left(memory, number, 0);
         memory.facts();
-        self.advance_started::<SHARED_LOOP>(program, memory, number, limit)
+        self.advance_started(program, memory, number, limit)
     }
 
     /// Makes steps as `advance` does, where nothing is recorded as reserved for the run, though as much may be had as it
     /// may need: `before` is the memory with that recorded.
     #[inline(always)]
-    pub(crate) fn advance_started<const LOOP: u8>(
+    fn advance_started(
         &mut self,
         program: &Verified,
         memory: &mut Memory,
@@ -142,7 +153,7 @@ impl OpenRun {
         ensures sizes { KeepsSizes memory.old memory.new }
     {
         program.facts();
-        let maps = TenantMaps::<LOOP> { tenant: number };
+        let maps = TenantMaps::<SHARED_LOOP> { tenant: number };
         let steps = lesser(program.instructions(), limit);
         match self.run.advance_on(program, &maps, memory, steps) {
             Need::Private => {
@@ -160,6 +171,94 @@ impl OpenRun {
             }
         }
     }
+
+    /// Makes the steps that are left, where nothing is recorded as reserved for the run, as `advance_started` does without a limit: up to one
+    /// that asks for an update or a deletion, or to the end.
+    #[inline(always)]
+    pub(crate) fn finish_started<const LOOP: u8>(
+        &mut self,
+        program: &Verified,
+        memory: &mut Memory,
+        tenant: u32,
+    ) -> Option<u64>
+        requires started { (programs : List (Option Accepted)) × (s : MachineState) × (before : MemoryState)
+            × IsUnderWayAt programs self.old program.now s (part before tenant) × IsStarted program.now tenant s before memory.old }
+        ensures program { self.new.program ≡ self.old.program }
+        ensures advanced { (programs : List (Option Accepted)) (s : MachineState) (before : MemoryState)
+            → IsUnderWayAt programs self.old program.now s (part before tenant) → IsStarted program.now tenant s before memory.old
+            → HasAdvanced program.now s tenant 4294967296 self.old.run before result self.new.run memory.new }
+        ensures others { OtherTenantsUnchanged tenant memory.old memory.new }
+        ensures sizes { KeepsSizes memory.old memory.new }
+    {
+        program.facts();
+        let maps = TenantMaps::<LOOP> { tenant };
+        // What the proof needs of the limit that there isn't: compiled code has nothing of it.
+        let _most = lesser(program.instructions(), ALL_STEPS);
+        match self.run.finish_on(program, &maps, memory) {
+            Need::Ended(ret) => {
+                release(memory, tenant);
+                Some(ret)
+            }
+            Need::Update { map, key, flags } => {
+                answer_update(memory, tenant, program, &mut self.run, map, key, flags);
+                None
+            }
+            Need::Delete { map, key } => {
+                answer_delete(memory, tenant, program, &mut self.run, map, key);
+                None
+            }
+            // Loads, stores and lookups were fulfilled.
+            _ => unreachable!(),
+        }
+    }
+}
+
+/// Answers an update, as `answer` does. It takes its numbers one by one, and stands apart, as `answer_delete`: what a caller hands on as a
+/// whole `Need` lies in memory, which compiled code clears at the beginning of each run.
+#[inline(never)]
+fn answer_update(
+    memory: &mut Memory,
+    tenant: u32,
+    program: &Verified,
+    run: &mut Run,
+    map: MapNo,
+    key: u32,
+    flags: u64,
+)
+    requires asks { (s : MachineState) × IsAsking program.now s (Update map key flags) run.old (part_with_have memory.old tenant) }
+    ensures goes_on { (s : MachineState) → IsAsking program.now s (Update map key flags) run.old (part_with_have memory.old tenant)
+        → (next : MachineState) × (step program.now.subject.text s ≡ Some (Next next)) × IsUnderWay program.now run.new next (part memory.new tenant) }
+    ensures reserve { (part memory.new tenant).reserve ≡ needed_from program.now (part memory.new tenant) run.old.slot }
+    ensures steps { run.new.steps ≡ run.old.steps }
+    ensures others { OtherTenantsUnchanged tenant memory.old memory.new }
+    ensures sharing { memory.new.sharing ≡ sharing_fulfilled (part memory.old tenant) memory.old.sharing tenant (Update map key flags) }
+    ensures sizes { KeepsSizes memory.old memory.new }
+{
+    let need = Need::Update { map, key, flags };
+    answer(memory, tenant, program, run, need);
+}
+
+/// Answers a deletion, as `answer` does.
+#[inline(never)]
+fn answer_delete(
+    memory: &mut Memory,
+    tenant: u32,
+    program: &Verified,
+    run: &mut Run,
+    map: MapNo,
+    key: u32,
+)
+    requires asks { (s : MachineState) × IsAsking program.now s (Delete map key) run.old (part_with_have memory.old tenant) }
+    ensures goes_on { (s : MachineState) → IsAsking program.now s (Delete map key) run.old (part_with_have memory.old tenant)
+        → (next : MachineState) × (step program.now.subject.text s ≡ Some (Next next)) × IsUnderWay program.now run.new next (part memory.new tenant) }
+    ensures reserve { (part memory.new tenant).reserve ≡ needed_from program.now (part memory.new tenant) run.old.slot }
+    ensures steps { run.new.steps ≡ run.old.steps }
+    ensures others { OtherTenantsUnchanged tenant memory.old memory.new }
+    ensures sharing { memory.new.sharing ≡ sharing_fulfilled (part memory.old tenant) memory.old.sharing tenant (Delete map key) }
+    ensures sizes { KeepsSizes memory.old memory.new }
+{
+    let need = Need::Delete { map, key };
+    answer(memory, tenant, program, run, need);
 }
 
 /// The lesser of two numbers.

@@ -1,16 +1,13 @@
 //! Whole runs of a tenant, each in one call or many in one.
 ghost use Rattle.std.specs.Prelude.{◌≡◌, ◌≤◌, ◌<◌, ◌+◌, ◌*◌, Some};
 
-use crate::open_run::{LOOP_OF_MANY, LOOP_OF_ONE};
+use crate::open_run::{ALL_STEPS, LOOP_OF_MANY, LOOP_OF_ONE};
 use crate::reply::Reply;
 use crate::tenant::{OpenRun, Tenant, program_of};
 use host_types::Fault;
 use page_table::Memory;
 use tenant_runs::reopen_unreserved;
 use verifier::Verified;
-
-/// More steps than a run makes.
-const ALL_STEPS: u64 = 4294967296;
 
 /// What stopped runs that are made on one context after the other.
 #[derive(Clone, Copy)]
@@ -48,7 +45,7 @@ impl OpenRun {
             return Err(fault);
         }
         memory.facts();
-        let ended = self.advance_started::<LOOP>(program, memory, number, ALL_STEPS);
+        let ended = self.finish_started::<LOOP>(program, memory, number);
         memory.facts();
         Ok(ended)
     }

@@ -125,11 +125,11 @@ pub fn reopen_unreserved(
             });
         }
     }
-    match run.restart(program, context) {
-        Ok(()) => {
-            memory.begin_unreserved(tenant);
-            Ok(())
-        }
-        Err(_) => Err(Fault::OutOfMemory),
+    if run.make_room(context.len()).is_err() {
+        return Err(Fault::OutOfMemory);
     }
+    // The run is begun last, so that compiled code knows where the first step is made.
+    memory.begin_unreserved(tenant);
+    run.start(program, context);
+    Ok(())
 }

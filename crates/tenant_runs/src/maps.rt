@@ -11,7 +11,7 @@ use interp::MapMemory;
 use page_table::Memory;
 use write_break::{load, store};
 
-/// The loop over a tenant's maps that several callers have.
+/// The loop over a tenant's maps that callers share which make steps up to a limit, or go on with a run.
 pub const SHARED_LOOP: u8 = 0;
 
 /// The maps of a tenant, in the memory of all. The parameter tells loops apart that run on them, and means nothing else: where one caller

@@ -15,11 +15,10 @@ use Rattle.tenant_runs.proofs.OnMaps.{Keeps}
 use Rattle.tenant_runs.proofs.Rooms.{record_keeps, ended_keeps, keeps_twice}
 use Rattle.host_core.specs.Batches.{IsUnderWayAt}
 use Rattle.host_core.proofs.Advances.{IsStarted, stands_at, kept_on, private_room, private_advanced, ended_advanced, asked_advanced, asked_at, asking_at}
-use Rattle.host_core.proofs.tenant.OpenRun.advance_started.Given.{Over}
 use Rattle.host_core.proofs.tenant.OpenRun.advance_started.Goals as goal
 use Rattle.host_core.proofs.tenant.OpenRun.advance_started.Goals.{After-advance_on}
 
-module _ (g : Over) (c : After-advance_on g) where
+module _ (c : After-advance_on) where
   -- from a state in which the kept run is under way
   module _ (programs : List (Option Accepted)) (s : MachineState) (before : MemoryState) (here : IsUnderWayAt programs c.args.self.now c.args.program.now s (part before c.args.number)) (start : IsStarted c.args.program.now c.args.number s before c.args.memory.now) where
     -- so its steps are those of the standard's machine from there
@@ -48,72 +47,72 @@ module _ (g : Over) (c : After-advance_on g) where
   many = c.lesser-steps.ensures ∙ ap (λ all. min all c.args.limit) c.instructions.ensures
 
 pub advance_on-requires : goal.advance_on-requires
-advance_on-requires g c =
+advance_on-requires c =
     let (programs, s, before, under, start) = c.requires.started in
     record { running = (s, stands_at programs c.args.self.now c.args.program.now s c.args.number before c.args.memory.now under start) }
 
 pub record-requires-clause-there : goal.record-requires-clause-there
-record-requires-clause-there g c = (kept g (goal.at.record-requires-clause-there g c).After-advance_on).1
+record-requires-clause-there c = (kept (goal.at.record-requires-clause-there c).After-advance_on).1
 
 pub record-requires-clause-room : goal.record-requires-clause-room
-record-requires-clause-room g c =
+record-requires-clause-room c =
     let (programs, s, before, under, start) = c.requires.started in
-    let (n, private, made) = followed g (goal.at.record-requires-clause-room g c).After-advance_on programs s before under start Private c.in-Private.is in
+    let (n, private, made) = followed (goal.at.record-requires-clause-room c).After-advance_on programs s before under start Private c.in-Private.is in
     let room = private_room c.args.program.now c.args.number s n c.advance_on.new.self c.args.memory.now c.advance_on.new.memory private in
     rw (c.needed-left.ensures, c.slot.ensures) (omega (arith, room))
 
 pub release-requires : goal.release-requires
-release-requires g c = record { there = (kept g (goal.at.release-requires g c).After-advance_on).1 }
+release-requires c = record { there = (kept (goal.at.release-requires c).After-advance_on).1 }
 
 pub answer-requires : goal.answer-requires
-answer-requires g c =
+answer-requires c =
     let (programs, s, before, under, start) = c.requires.started in
-    let at = (goal.at.answer-requires g c).After-advance_on in
-    let (n, follows, made) = followed g at programs s before under start c.advance_on.result refl in
+    let at = (goal.at.answer-requires c).After-advance_on in
+    let (n, follows, made) = followed at programs s before under start c.advance_on.result refl in
     let asked = asked_at c.args.program.now c.args.number s n c.advance_on.result c.advance_on.new.self c.args.memory.now c.advance_on.new.memory c.in_default.not-Private c.in_default.not-Ended follows in
     record { asks = (asked.here, asking_at c.args.program.now c.args.number s n c.advance_on.result c.advance_on.new.self before c.args.memory.now c.advance_on.new.memory start asked) }
 
 pub returns-in-Private-clause-advanced : goal.returns-in-Private-clause-advanced
-returns-in-Private-clause-advanced g c programs s before under start =
-    let at = (goal.at.returns-in-Private-clause-advanced g c).After-advance_on in
+returns-in-Private-clause-advanced c programs s before under start =
+    let at = (goal.at.returns-in-Private-clause-advanced c).After-advance_on in
     let left : c.needed-left.result ≡ needed_from c.args.program.now (part c.advance_on.new.memory c.args.number) c.advance_on.new.self.slot =
     c.needed-left.ensures ∙ ap (needed_from c.args.program.now (part c.advance_on.new.memory c.args.number)) c.slot.ensures in
     let sharing : c.record.new.self.sharing ≡ c.advance_on.new.memory.sharing = ap (λ (memory : MemoryState). memory.sharing) c.record.ensures.all in
     (private_advanced programs c.args.self.now c.args.program.now s c.args.number c.args.limit c.lesser-steps.result c.advance_on.new.self before c.args.memory.now c.advance_on.new.memory c.record.new.self
-    under start c.facts.ensures c.requires.some (many g at) (followed g at programs s before under start Private c.in-Private.is) (c.advance_on.ensures.all c.in-Private.is) (rw left at c.record.ensures.recorded) sharing)
+    under start c.facts.ensures c.requires.some (many at) (followed at programs s before under start Private c.in-Private.is) (c.advance_on.ensures.all c.in-Private.is) (rw left at c.record.ensures.recorded) sharing)
 
 pub returns-in-Private-clause-others : goal.returns-in-Private-clause-others
-returns-in-Private-clause-others g c t other = c.record.ensures.others t other ∙ others_kept g (goal.at.returns-in-Private-clause-others g c).After-advance_on t other
+returns-in-Private-clause-others c t other = c.record.ensures.others t other ∙ others_kept (goal.at.returns-in-Private-clause-others c).After-advance_on t other
 
 pub returns-in-Private-clause-sizes : goal.returns-in-Private-clause-sizes
-returns-in-Private-clause-sizes g c =
-    keeps_twice c.args.memory.now c.advance_on.new.memory c.record.new.self (sizes_kept g (goal.at.returns-in-Private-clause-sizes g c).After-advance_on)
+returns-in-Private-clause-sizes c =
+    keeps_twice c.args.memory.now c.advance_on.new.memory c.record.new.self (sizes_kept (goal.at.returns-in-Private-clause-sizes c).After-advance_on)
     (record_keeps c.advance_on.new.memory c.record.new.self c.args.number _ c.record.ensures.all)
 
 pub returns-in-Ended-clause-advanced : goal.returns-in-Ended-clause-advanced
-returns-in-Ended-clause-advanced g c programs s before under start =
-    let at = (goal.at.returns-in-Ended-clause-advanced g c).After-advance_on in
+returns-in-Ended-clause-advanced c programs s before under start =
+    let at = (goal.at.returns-in-Ended-clause-advanced c).After-advance_on in
     let sharing : c.release.new.memory.sharing ≡ released c.advance_on.new.memory.sharing c.args.number = ap (λ (memory : MemoryState). memory.sharing) c.release.ensures.all in
     (ended_advanced programs c.args.self.now c.args.program.now s c.args.number c.args.limit c.lesser-steps.result c.in-Ended.ret c.advance_on.new.self before c.args.memory.now c.advance_on.new.memory c.release.new.memory
-    start (many g at) (followed g at programs s before under start (Ended c.in-Ended.ret) c.in-Ended.is) c.advance_on.ensures.limit c.release.ensures.recorded sharing)
+    start (many at) (followed at programs s before under start (Ended c.in-Ended.ret) c.in-Ended.is) c.advance_on.ensures.limit c.release.ensures.recorded sharing)
 
 pub returns-in-Ended-clause-others : goal.returns-in-Ended-clause-others
-returns-in-Ended-clause-others g c t other = c.release.ensures.others t other ∙ others_kept g (goal.at.returns-in-Ended-clause-others g c).After-advance_on t other
+returns-in-Ended-clause-others c t other = c.release.ensures.others t other ∙ others_kept (goal.at.returns-in-Ended-clause-others c).After-advance_on t other
 
 pub returns-in-Ended-clause-sizes : goal.returns-in-Ended-clause-sizes
-returns-in-Ended-clause-sizes g c =
-    keeps_twice c.args.memory.now c.advance_on.new.memory c.release.new.memory (sizes_kept g (goal.at.returns-in-Ended-clause-sizes g c).After-advance_on)
+returns-in-Ended-clause-sizes c =
+    keeps_twice c.args.memory.now c.advance_on.new.memory c.release.new.memory (sizes_kept (goal.at.returns-in-Ended-clause-sizes c).After-advance_on)
     (ended_keeps c.advance_on.new.memory c.release.new.memory c.args.number c.release.ensures.all)
 
 pub returns-in_default : goal.returns-in_default
-returns-in_default g c =
-    let at = (goal.at.returns-in_default g c).After-advance_on in
+returns-in_default c =
+    let at = (goal.at.returns-in_default c).After-advance_on in
     record {
       program = refl;
       advanced = λ programs s before under start.
           (asked_advanced c.args.self.now c.args.program.now s c.args.number c.args.limit c.lesser-steps.result c.advance_on.result c.advance_on.new.self c.answer.new.run before c.args.memory.now c.advance_on.new.memory c.answer.new.memory
-          start (many g at) c.in_default.not-Private c.in_default.not-Ended (followed g at programs s before under start c.advance_on.result refl) c.advance_on.ensures.limit
+          start (many at) c.in_default.not-Private c.in_default.not-Ended (followed at programs s before under start c.advance_on.result refl) c.advance_on.ensures.limit
           c.answer.ensures.goes_on c.answer.ensures.reserve c.answer.ensures.steps c.answer.ensures.sharing);
-      others = λ t other. c.answer.ensures.others t other ∙ others_kept g at t other;
-      sizes = keeps_twice c.args.memory.now c.advance_on.new.memory c.answer.new.memory (sizes_kept g at) c.answer.ensures.sizes;
+      others = λ t other. c.answer.ensures.others t other ∙ others_kept at t other;
+      sizes = keeps_twice c.args.memory.now c.advance_on.new.memory c.answer.new.memory (sizes_kept at) c.answer.ensures.sizes;
     }

@@ -86,13 +86,13 @@ module _ (g : Over) (c : After-facts-2 g) (programs : List (Option Accepted)) (r
       let call = c.in_default.ensures in
       begins c.args.program.now c.args.number c.args.memory.now c.facts.ensures there eight unreserved enough c.reopen_unreserved.new.memory call.recorded call.all programs open_run s under c.facts-2.ensures
 
-pub advance_started-ended-requires-clause-started : goal.advance_started-ended-requires-clause-started
-advance_started-ended-requires-clause-started g c =
-    let at = (goal.at.advance_started-ended-requires-clause-started g c).After-facts-2 in
+pub finish_started-ended-requires : goal.finish_started-ended-requires
+finish_started-ended-requires g c =
+    let at = (goal.at.finish_started-ended-requires g c).After-facts-2 in
     let (programs, rests) = c.requires.rests in
     let (v, s, under) = under-way-kept programs (open_run g at programs rests) c.args.number (with_it g at programs rests) (kept_begun g at programs rests) in
     let way = subst (λ p. IsUnderWayAt programs (open_run g at programs rests) p s (part (with_it g at programs rests) c.args.number)) (same g at programs rests v s under) under in
-    (programs, s, with_it g at programs rests, way, starts g at programs rests s way)
+    record { started = (programs, s, with_it g at programs rests, way, starts g at programs rests s way) }
 
 module _ (g : Over) (c : After-facts-3 g) (programs : List (Option Accepted)) (rests : IsReady programs c.args.self.now.program c.args.program.now c.args.number c.args.memory.now) where
   abbrev here : After-facts-2 g
@@ -105,38 +105,38 @@ module _ (g : Over) (c : After-facts-3 g) (programs : List (Option Accepted)) (r
   begun = open_run g here programs rests
 
   abbrev after : KeptRun
-  after = c.advance_started-ended.new.self
+  after = c.finish_started-ended.new.self
 
   abbrev later : MemoryState
-  later = c.advance_started-ended.new.memory
+  later = c.finish_started-ended.new.memory
 
   -- its steps are those of the standard's machine
-  advanced : (ended : Option ℕ) → c.advance_started-ended.result ≡ ended → (v : Accepted) (s : MachineState) → IsUnderWayAt programs begun v s (part before c.args.number)
+  advanced : (ended : Option ℕ) → c.finish_started-ended.result ≡ ended → (v : Accepted) (s : MachineState) → IsUnderWayAt programs begun v s (part before c.args.number)
       → HasAdvanced v s c.args.number 4294967296 c.reopen_unreserved.new.run before ended after.run later
   advanced ended is v s under =
       let is_same = same g here programs rests v s under in
       let way = subst (λ p. IsUnderWayAt programs begun p s (part before c.args.number)) is_same under in
       subst (λ p. HasAdvanced p s c.args.number 4294967296 c.reopen_unreserved.new.run before ended after.run later) (sym is_same)
       (subst (λ o. HasAdvanced c.args.program.now s c.args.number 4294967296 c.reopen_unreserved.new.run before o after.run later) is
-      (c.advance_started-ended.ensures.advanced programs s before way (starts g here programs rests s way)))
+      (c.finish_started-ended.ensures.advanced programs s before way (starts g here programs rests s way)))
 
   counted : c.reopen_unreserved.new.run.steps + after.run.steps ≡ after.run.steps
   counted = let none = c.in_default.ensures.steps in omega (arith, none)
 
   few : after.run.steps ≤ 4294967296
   few =
-      let (more, most) = advanced-some programs begun after.run c.args.number 4294967296 c.advance_started-ended.result before later (kept_begun g here programs rests) (advanced c.advance_started-ended.result refl) in
+      let (more, most) = advanced-some programs begun after.run c.args.number 4294967296 c.finish_started-ended.result before later (kept_begun g here programs rests) (advanced c.finish_started-ended.result refl) in
       omega (arith, most, counted)
 
   others_kept : OtherTenantsUnchanged c.args.number before later
   others_kept =
       let call = c.in_default.ensures in
-      others_later c.args.program.now c.args.number c.args.memory.now c.facts.ensures (there g here programs rests) (eight g here programs rests) (unreserved g here programs rests) (enough g here programs rests) c.reopen_unreserved.new.memory call.recorded call.all later call.others c.advance_started-ended.ensures.others
+      others_later c.args.program.now c.args.number c.args.memory.now c.facts.ensures (there g here programs rests) (eight g here programs rests) (unreserved g here programs rests) (enough g here programs rests) c.reopen_unreserved.new.memory call.recorded call.all later call.others c.finish_started-ended.ensures.others
 
   sizes_kept : KeepsSizes before later
   sizes_kept =
       let call = c.in_default.ensures in
-      sizes_later c.args.program.now c.args.number c.args.memory.now c.facts.ensures (there g here programs rests) (eight g here programs rests) (unreserved g here programs rests) (enough g here programs rests) c.reopen_unreserved.new.memory call.recorded call.all later c.advance_started-ended.ensures.sizes
+      sizes_later c.args.program.now c.args.number c.args.memory.now c.facts.ensures (there g here programs rests) (eight g here programs rests) (unreserved g here programs rests) (enough g here programs rests) c.reopen_unreserved.new.memory call.recorded call.all later c.finish_started-ended.ensures.sizes
 
   -- the steps that are made after its beginning make a whole run
   whole : (new : TenantView) (last_memory : MemoryState) (last : Reply) → HasMadeSteps c.args.number (busy_tenant programs begun) before 4294967296 (Some last) new last_memory
@@ -145,12 +145,12 @@ module _ (g : Over) (c : After-facts-3 g) (programs : List (Option Accepted)) (r
       run-made c.args.number c.args.self.now.program c.args.context.now (idle_tenant programs) (busy_tenant programs begun) c.args.memory.now before Begun (reads_it g here programs rests) (served g here programs rests) refl new last_memory (Some last) last refl made
 
   -- steps up to what is asked, after which the run goes on
-  first : c.advance_started-ended.result ≡ None → HasMadeSteps c.args.number (busy_tenant programs begun) before after.run.steps None (busy_tenant programs after) later
+  first : c.finish_started-ended.result ≡ None → HasMadeSteps c.args.number (busy_tenant programs begun) before after.run.steps None (busy_tenant programs after) later
   first asked =
       made-steps programs begun after c.args.number 4294967296 after.run.steps before later
-      (reads_it g here programs rests) c.facts-3.ensures others_kept sizes_kept c.advance_started-ended.ensures.program counted (advanced None asked)
+      (reads_it g here programs rests) c.facts-3.ensures others_kept sizes_kept c.finish_started-ended.ensures.program counted (advanced None asked)
 
-  came_to : (ended : Option ℕ) → c.advance_started-ended.result ≡ ended → HasComeTo programs c.args.number c.args.self.now.program c.args.context.now c.args.memory.now (Ok ended) after later
+  came_to : (ended : Option ℕ) → c.finish_started-ended.result ≡ ended → HasComeTo programs c.args.number c.args.self.now.program c.args.context.now c.args.memory.now (Ok ended) after later
   came_to (Some ret) is =
       let made = made-last_step programs begun after.run c.args.number 4294967296 ret after.run.steps after.run.steps before later
       (reads_it g here programs rests) c.facts-3.ensures others_kept sizes_kept counted refl (advanced (Some ret) is) in
@@ -168,4 +168,4 @@ module _ (g : Over) (c : After-facts-3 g) (programs : List (Option Accepted)) (r
 
 pub returns-clause-made : goal.returns-clause-made
 returns-clause-made g c programs rests =
-    came_to g (goal.at.returns-clause-made g c).After-facts-3 programs rests c.advance_started-ended.result refl
+    came_to g (goal.at.returns-clause-made g c).After-facts-3 programs rests c.finish_started-ended.result refl
