@@ -1,5 +1,5 @@
-/* A host of eBPF programs, to be embedded: 1 to 16 tenants, each with its own maps, its own verified programs and at most one open
- * run, in a memory whose pages are merged. No reply and no value shows that: each call does what docs/HOST.md says of its event.
+/* An embeddable host of eBPF programs: 1 to 16 tenants, each with its own maps, its own verified programs and at most one open
+ * run, in a memory whose pages are merged. No reply and no value reveals this: each call does what docs/HOST.md says of its event.
  *
  *     struct bpf_host host = {0};
  *     struct bpf_host_options options = BPF_HOST_OPTIONS;
@@ -11,36 +11,36 @@
  *     if (bpf_host_run(&host, 0, program, context, 0, &run, &why)) ..
  *     bpf_host_free(&host);
  *
- * WHAT A CALL RETURNS. BPF_HOST_DONE, which is 0, or a refusal; bpf_host_code_name has its name. Each call lists its refusals without BPF_HOST_, in
- * the order in which they are tested; docs/HOST.md says when each comes.
+ * WHAT A CALL RETURNS. BPF_HOST_DONE, which is 0, or a refusal; bpf_host_code_name returns its name. Each call lists its refusals without BPF_HOST_,
+ * in the order in which they are tested; docs/HOST.md says when each is returned.
  *     a rule           1 to 25: the program breaks this rule of the verifier, at the slot `refused->slot`
- *     NO_FRAMES        more frames are needed than may be had: `refused->need` and `refused->have`
- *     OUT_OF_MEMORY    nothing else is refused; but bpf_host_load returns it before 11 to 25 where there is no memory to verify the text,
+ *     NO_FRAMES        more frames are needed than are available: `refused->need` and `refused->have`
+ *     OUT_OF_MEMORY    no other refusal applies; but bpf_host_load returns it before 11 to 25 if there is no memory to verify the text,
  *                      and bpf_host_read_object before 103 and a rule
  *     CLOSED           the handle is closed
- *     OPEN_ALREADY     the handle is open already (bpf_host_new)
- *     WRONG_LENGTH     the buffer has another length than the value (bpf_host_lookup) or is too short (bpf_host_lower, bpf_host_explain), or the
- *                      contexts can't have one size (bpf_host_run_many), or an object has a length that is more than its array's
+ *     OPEN_ALREADY     the handle is already open (bpf_host_new)
+ *     WRONG_LENGTH     the buffer's length isn't the value's (bpf_host_lookup), or it is too short (bpf_host_lower, bpf_host_explain), or the
+ *                      contexts can't all have the same size (bpf_host_run_many), or an object has a length greater than its array's
  *                      (bpf_host_load_object)
- *     BAD_OBJECT       the object file isn't taken: `object->why` says why (bpf_host_read_object)
- *     HAS_MAPS         the tenant has a map already (bpf_host_load_object)
- * bpf_host_lookup and bpf_host_update take no memory, and bpf_host_begin and _run only where the context is longer than those of the tenant's
- * runs before.
- * A call that doesn't return 0 changed nothing: neither the host nor what the caller's pointers lead to, but for the members of
- * `*refused` that the number speaks of (slot; need and have), `*written` where a buffer is too short, `object->why`, what bpf_host_run_many
- * did before, and the maps that bpf_host_load_object made and dropped.
+ *     BAD_OBJECT       the object file isn't accepted: `object->why` says why (bpf_host_read_object)
+ *     HAS_MAPS         the tenant already has a map (bpf_host_load_object)
+ * bpf_host_lookup and bpf_host_update allocate no memory, and bpf_host_begin and _run only if the context is longer than those of the
+ * tenant's earlier runs.
+ * A call that doesn't return 0 changed nothing, neither the host nor what the caller's pointers point to, except the members of
+ * `*refused` that the number concerns (slot; need and have), `*written` if a buffer is too short, `object->why`, what bpf_host_run_many
+ * did before the refusal, and the maps that bpf_host_load_object made and dropped.
  *
- * WHAT THE CALLER OWES AT EACH CALL. No proof covers it.
- *   - No pointer is null, and each leads to an object of its type that is initialised: a `struct bpf_host` to all zeros at first, a `bool`
- *     to true or false. A buffer of no bytes needs a pointer that isn't null, too.
- *   - No two pointers of one call lead to the same bytes, but for those that are `const`.
- *   - The members of a `struct bpf_host` are the library's: they are neither read nor written, and once a handle was opened, a copy of it
- *     isn't used beside it.
- *   - One call at a time is made with a handle. Another thread may go on with it after a lock, the start or the join of a thread, or an atomic
- *     word with sequential consistency, by which the calls of one thread come before those of the other.
+ * WHAT THE CALLER MUST ENSURE AT EACH CALL. No proof covers it.
+ *   - No pointer is null, and each points to an initialized object of its type: a `struct bpf_host` starts as all zeros, and a `bool` is
+ *     true or false. An empty buffer needs a pointer that isn't null, too.
+ *   - No two pointers of one call point to the same bytes, except those that are `const`.
+ *   - The members of a `struct bpf_host` belong to the library: the caller neither reads nor writes them, and once a handle was opened, uses
+ *     no copy of it beside it.
+ *   - At most one call at a time uses a handle. Another thread may continue with it after a lock, the start or join of a thread, or a
+ *     sequentially consistent atomic, any of which orders the calls of one thread before those of the other.
  *   - No call is made from a signal handler, or from the child of a process that had several threads when it forked.
  *   - malloc, realloc and free are the C library's, or others that align as it does, up to 16.
- * A host is closed by bpf_host_free; one that isn't keeps its memory. */
+ * bpf_host_free closes a host; one that isn't closed keeps its memory. */
 #ifndef BPF_HOST_H
 #define BPF_HOST_H
 
@@ -52,7 +52,7 @@
 extern "C" {
 #endif
 
-/* The version of this header. It is that of the library where bpf_host_version returns the same. */
+/* The version of this header. The library has the same version if bpf_host_version returns this number. */
 #define BPF_HOST_VERSION 4
 
 /* A handle: {0} is closed. */
@@ -64,12 +64,12 @@ struct bpf_host {
 /* The options of the scanner, by the names of Linux's KSM. */
 struct bpf_host_options {
     uint32_t pages_to_scan;    /* 1 to 100000 */
-    uint32_t run;              /* 0: the scanner stands still; 1: it visits */
+    uint32_t run;              /* 0: the scanner is stopped; 1: it visits */
     uint32_t use_zero_pages;   /* 1: pages of zeros share one frame */
-    uint32_t max_page_sharing; /* how many pages share a frame, 2 to 65535 */
+    uint32_t max_page_sharing; /* how many pages may share a frame, 2 to 65535 */
 };
 
-/* The options of a host that is given none. */
+/* The default options of a host. */
 #define BPF_HOST_OPTIONS {100, 1, 0, 256}
 
 /* The numbers of the options, for bpf_host_set. */
@@ -125,43 +125,43 @@ enum {
     BPF_HOST_HAS_MAPS = 104
 };
 
-/* What a refusal says beside its number. */
+/* What a refusal says besides its number. */
 struct bpf_host_refused {
     uint32_t slot;
     uint32_t need;
     uint32_t have;
 };
 
-/* What a run returned, and how many steps it made. */
+/* What a run returned, and how many steps it took. */
 struct bpf_host_run {
     uint64_t ret;
     uint32_t steps;
 };
 
-/* The shape of a map: the bytes of a value, and how many values there are. */
+/* The shape of a map: the size of a value in bytes, and the number of values. */
 struct bpf_host_shape {
     uint32_t value_size;
     uint32_t entries;
 };
 
-/* A map of an object file, one that it defines or that its global variables are in. All values begin as zeros, but value 0 as the
- * `first_len` bytes of `first` where these aren't 0 but a whole value. */
+/* A map of an object file: one that it defines, or that holds its global variables. All values begin as zeros, except value 0, which
+ * begins as the `first_len` bytes of `first` if `first_len` isn't 0 but a value's size. */
 struct bpf_host_object_map {
     struct bpf_host_shape shape;
     uint32_t first_len;
-    char name[64]; /* UTF-8 and zeros; a longer name is cut */
+    char name[64]; /* UTF-8, padded with zeros; a longer name is cut */
     uint8_t first[4096];
 };
 
 /* A program of an object file, its functions in one text and its loops unrolled, and its maps by number. It has 67180 bytes, so keep it static or on
- * the heap. What is after its text and its last map stays as it was. */
+ * the heap. What follows its text and its last map is left unchanged. */
 struct bpf_host_object {
     uint32_t context_size;
     uint32_t text_len;
     uint32_t maps_len;
     uint8_t text[32768];
     struct bpf_host_object_map maps[8];
-    char why[1024]; /* after a refusal why, with the line of C: UTF-8 and zeros; more is cut */
+    char why[1024]; /* after a refusal the reason, with the line of C: UTF-8 and zeros; more is cut */
 };
 
 /* The counters, by the names of the kernel's manual. */
@@ -183,7 +183,7 @@ uint32_t bpf_host_version(void);
 /* Opens a closed handle with a new host of 2 to 4096 frames and 1 to 16 tenants. Refused: OPEN_ALREADY, BAD_SHAPE, BAD_OPTION, OUT_OF_MEMORY. */
 uint32_t bpf_host_new(uint32_t frames, uint32_t tenants, const struct bpf_host_options *options, struct bpf_host *host);
 
-/* Closes a handle and gives back all that its host held. A closed handle stays closed. */
+/* Closes a handle and frees all that its host held. A closed handle stays closed. */
 void bpf_host_free(struct bpf_host *host);
 
 /* Makes a map of `entries` values of `value_size` bytes, all zero, and writes its number to `*map`: 0 to 7. Refused: CLOSED, BAD_TENANT, BUSY,
@@ -191,10 +191,10 @@ void bpf_host_free(struct bpf_host *host);
 uint32_t bpf_host_create_map(struct bpf_host *host, uint32_t tenant, uint32_t value_size, uint32_t entries, bool mergeable, uint32_t *map,
                              struct bpf_host_refused *refused);
 
-/* Takes away a map that no loaded program names. Refused: CLOSED, BAD_TENANT, BUSY, NO_MAP, IN_USE. */
+/* Removes a map that no loaded program refers to. Refused: CLOSED, BAD_TENANT, BUSY, NO_MAP, IN_USE. */
 uint32_t bpf_host_drop_map(struct bpf_host *host, uint32_t tenant, uint32_t map);
 
-/* Writes the shape of a map. A tenant that isn't there has no map. Refused: CLOSED, NO_MAP. */
+/* Writes the shape of a map. A tenant that doesn't exist has no map. Refused: CLOSED, NO_MAP. */
 uint32_t bpf_host_shape(struct bpf_host *host, uint32_t tenant, uint32_t map, struct bpf_host_shape *shape);
 
 /* Verifies a program, slots of 8 bytes, for the tenant's maps and contexts of `context_size` bytes, and writes its number to `*program`: 0 to 7.
@@ -202,7 +202,7 @@ uint32_t bpf_host_shape(struct bpf_host *host, uint32_t tenant, uint32_t map, st
 uint32_t bpf_host_load(struct bpf_host *host, uint32_t tenant, const uint8_t *text, size_t text_len, uint32_t context_size, uint32_t *program,
                        struct bpf_host_refused *refused);
 
-/* Takes a program away. Refused: CLOSED, BAD_TENANT, BUSY, NO_PROGRAM. */
+/* Removes a program. Refused: CLOSED, BAD_TENANT, BUSY, NO_PROGRAM. */
 uint32_t bpf_host_unload(struct bpf_host *host, uint32_t tenant, uint32_t program);
 
 /* Runs a program on a context, from its first instruction to its end: a begin and all its steps. Refused: CLOSED, BAD_TENANT, BUSY, NO_PROGRAM,
@@ -210,9 +210,9 @@ uint32_t bpf_host_unload(struct bpf_host *host, uint32_t tenant, uint32_t progra
 uint32_t bpf_host_run(struct bpf_host *host, uint32_t tenant, uint32_t program, const uint8_t *context, size_t context_len,
                       struct bpf_host_run *run, struct bpf_host_refused *refused);
 
-/* Runs a program once for each of `rets_len` contexts of one size, which stand one after the other, and writes what each run returns: short runs
- * take less time so than by a call each. It stops at the first refusal: the runs before it were made, and `rets` from there on is as it was.
- * Refused: WRONG_LENGTH where the contexts can't have one size, and what bpf_host_run refuses. */
+/* Runs a program once for each of `rets_len` contexts of one size, stored one after the other, and writes what each run returns: short runs take
+ * less time this way than with one call each. It stops at the first refusal: the earlier runs were made, and `rets` is unchanged from there on.
+ * Refused: WRONG_LENGTH if the contexts can't all have the same size, and what bpf_host_run refuses. */
 uint32_t bpf_host_run_many(struct bpf_host *host, uint32_t tenant, uint32_t program, const uint8_t *contexts, size_t contexts_len, uint64_t *rets,
                            size_t rets_len, struct bpf_host_refused *refused);
 
@@ -221,64 +221,64 @@ uint32_t bpf_host_run_many(struct bpf_host *host, uint32_t tenant, uint32_t prog
 uint32_t bpf_host_begin(struct bpf_host *host, uint32_t tenant, uint32_t program, const uint8_t *context, size_t context_len,
                         struct bpf_host_refused *refused);
 
-/* Makes steps of the tenant's open run, at most `steps`. `*ended` says whether the run ended with them, and then `*run` is written. Refused:
+/* Makes at most `steps` steps of the tenant's open run. `*ended` says whether the run ended with them; if so, `*run` is written. Refused:
  * CLOSED, BAD_TENANT, NO_RUN. */
 uint32_t bpf_host_step(struct bpf_host *host, uint32_t tenant, uint64_t steps, bool *ended, struct bpf_host_run *run);
 
-/* Copies a value of a map to just as many bytes. Refused: CLOSED, BAD_TENANT, NO_MAP, NO_ELEMENT, WRONG_LENGTH. */
+/* Copies a value of a map to a buffer of exactly its size. Refused: CLOSED, BAD_TENANT, NO_MAP, NO_ELEMENT, WRONG_LENGTH. */
 uint32_t bpf_host_lookup(struct bpf_host *host, uint32_t tenant, uint32_t map, uint32_t key, uint8_t *value, size_t value_len);
 
 /* Writes a value of a map. Refused: CLOSED, BAD_TENANT, BUSY, NO_MAP, NO_ELEMENT, BAD_SHAPE, NO_FRAMES. */
 uint32_t bpf_host_update(struct bpf_host *host, uint32_t tenant, uint32_t map, uint32_t key, const uint8_t *value, size_t value_len,
                          struct bpf_host_refused *refused);
 
-/* Lets the scanner make `visits` visits of a page each, and writes the counters after them. Refused: CLOSED. */
+/* Lets the scanner make `visits` visits, of one page each, and then writes the counters. Refused: CLOSED. */
 uint32_t bpf_host_visit(struct bpf_host *host, uint32_t visits, struct bpf_host_counters *after);
 
 /* Sets an option. Refused: CLOSED, BAD_OPTION, PAGES_SHARED. */
 uint32_t bpf_host_set(struct bpf_host *host, uint32_t option, uint32_t value);
 
-/* Gives each page that shares a frame one of its own, and stops the scanner. Refused: CLOSED, NO_FRAMES. */
+/* Gives each page that shares a frame a frame of its own, and stops the scanner. Refused: CLOSED, NO_FRAMES. */
 uint32_t bpf_host_unmerge(struct bpf_host *host, struct bpf_host_refused *refused);
 
 /* Writes the counters. Refused: CLOSED. */
 uint32_t bpf_host_counters(struct bpf_host *host, struct bpf_host_counters *counters);
 
-/* CALLS ON A TEXT ALONE. They need no handle, and may be made on several threads at a time. `shapes` has the shapes of the maps that the
- * text may use, by number; one of two zeros is that of no map. */
+/* CALLS ON A TEXT ALONE. They need no handle, and several threads may make them at the same time. `shapes` has the shapes of the maps that the
+ * text may use, by number; a shape of two zeros means that there is no such map. */
 
-/* Verifies a text for maps of these shapes and contexts of `context_size` bytes: what bpf_host_load answers a tenant with such maps. Refused:
- * TOO_MANY_MAPS, BAD_SHAPE, BAD_CONTEXT, a rule, OUT_OF_MEMORY. */
+/* Verifies a text for maps of these shapes and contexts of `context_size` bytes, with the answer that bpf_host_load gives a tenant with such maps.
+ * Refused: TOO_MANY_MAPS, BAD_SHAPE, BAD_CONTEXT, a rule, OUT_OF_MEMORY. */
 uint32_t bpf_host_verify(const uint8_t *text, size_t text_len, const struct bpf_host_shape *shapes, size_t shapes_len, uint32_t context_size,
                          struct bpf_host_refused *refused);
 
-/* Makes a text with the same runs that the verifier accepts, with blocks in another order and loops in several copies (docs/LOWER.md), and writes
- * how many bytes it has to `*written`: at most 32768. A text that is accepted stays as it is. WRONG_LENGTH where `lowered_len` is less: then
- * `lowered` stays as it was. Refused: TOO_MANY_MAPS, BAD_SHAPE, BAD_CONTEXT, OUT_OF_MEMORY, and a rule as bpf_host_verify refuses the text where
- * the lowering doesn't help. */
+/* Makes a text with the same runs that the verifier accepts, with reordered blocks and several copies of loops (docs/LOWER.md), and writes its
+ * length in bytes to `*written`: at most 32768. A text that is already accepted is copied unchanged. WRONG_LENGTH if `lowered_len` is less: then
+ * `lowered` stays unchanged. Refused: TOO_MANY_MAPS, BAD_SHAPE, BAD_CONTEXT, OUT_OF_MEMORY, and the rule by which bpf_host_verify refuses the text,
+ * if lowering doesn't help. */
 uint32_t bpf_host_lower(const uint8_t *text, size_t text_len, const struct bpf_host_shape *shapes, size_t shapes_len, uint32_t context_size,
                         uint8_t *lowered, size_t lowered_len, size_t *written, struct bpf_host_refused *refused);
 
 /* Writes what the program `explain` prints of a text, accepted or refused, without colours (docs/EXPLAIN.md): UTF-8 with no zero at its end, and
- * how many bytes that is to `*written`. WRONG_LENGTH where `explained_len` is less: then `explained` stays as it was. Without memory OUT_OF_MEMORY,
- * or the words say so or are fewer. */
+ * its length in bytes to `*written`. WRONG_LENGTH if `explained_len` is less: then `explained` stays unchanged. If memory runs out, OUT_OF_MEMORY,
+ * or the output says so or is shorter. */
 uint32_t bpf_host_explain(const uint8_t *text, size_t text_len, const struct bpf_host_shape *shapes, size_t shapes_len, uint32_t context_size,
                           char *explained, size_t explained_len, size_t *written);
 
-/* CALLS FOR AN OBJECT FILE, as `clang -g -O2 -target bpf -c` makes it. */
+/* CALLS FOR AN OBJECT FILE, as made by `clang -g -O2 -target bpf -c`. */
 
-/* Reads an object file, makes one text of the function that `name` chooses (its own name, or that of its section; no bytes: the only function) and
+/* Reads an object file, makes one text of the function that `name` selects (its own name, or that of its section; if empty, the only function) and
  * of those that it calls, lowers it as bpf_host_lower does, and writes the text that the verifier accepts, and its maps. No handle is needed. A
- * rule's slot is that of the text before it was lowered. Refused: BAD_CONTEXT, BAD_OBJECT, a rule, OUT_OF_MEMORY, and then `object->why` has the
- * words of the program `bpf_object`, and nothing else of `*object` changed. */
+ * rule's slot is that of the text before lowering. Refused: BAD_CONTEXT, BAD_OBJECT, a rule, OUT_OF_MEMORY; then `object->why` has the words of
+ * the program `bpf_object`, and nothing else in `*object` changed. */
 uint32_t bpf_host_read_object(const uint8_t *file, size_t file_len, const char *name, size_t name_len, uint32_t context_size,
                               struct bpf_host_object *object, struct bpf_host_refused *refused);
 
-/* Makes the maps of an object that was read, by number and with their first values, and loads its program, for a tenant that has no map, since a
- * text names maps by number. A further program of the same file is loaded by bpf_host_load, from the text that is read under its name: its maps
- * have the same numbers. Where that is refused, the tenant's maps are dropped, but for one that a loaded program of the tenant names. Refused:
- * CLOSED, WRONG_LENGTH where a length is more than its array has, HAS_MAPS, and what bpf_host_create_map, bpf_host_update and bpf_host_load
- * refuse. */
+/* Makes the maps of an object that was read, by number and with their initial values, and loads its program, for a tenant that has no map, since a
+ * text refers to maps by number. bpf_host_load loads a further program of the same file, from the text that is read under its name: its maps
+ * have the same numbers. If making a map or loading the program is refused, the tenant's maps are dropped, except one that a loaded program of the
+ * tenant refers to. Refused: CLOSED, WRONG_LENGTH if a length exceeds its array, HAS_MAPS, and what bpf_host_create_map, bpf_host_update and
+ * bpf_host_load refuse. */
 uint32_t bpf_host_load_object(struct bpf_host *host, uint32_t tenant, const struct bpf_host_object *object, bool mergeable, uint32_t *program,
                               struct bpf_host_refused *refused);
 
