@@ -33,7 +33,8 @@
  * WHAT THE CALLER MUST ENSURE AT EACH CALL. No proof covers it.
  *   - No pointer is null, and each points to an initialized object of its type: a `struct bpf_host` starts as all zeros, and a `bool` is
  *     true or false. An empty buffer needs a pointer that isn't null, too.
- *   - No two pointers of one call point to the same bytes, except those that are `const`.
+ *   - No two pointers of one call point to the same bytes, except those that are `const`. Until the call returns, nobody else writes to
+ *     these bytes: bpf_host_run reads a context where it is.
  *   - The members of a `struct bpf_host` belong to the library: the caller neither reads nor writes them, and once a handle was opened, uses
  *     no copy of it beside it.
  *   - At most one call at a time uses a handle. Another thread may continue with it after a lock, the start or join of a thread, or a

@@ -14,12 +14,16 @@ use Rattle.interp.specs.declared.need.Need.{Need}
 use Rattle.interp.specs.Needs.{maps_after}
 use Rattle.interp.specs.Machine.{MachineState, Next, Exits, step}
 use Rattle.interp.specs.OnMaps.{IsRoomy}
-use Rattle.interp.specs.StandsFor.{Running, StandsFor, Follows}
+use Rattle.interp.specs.StandsFor.{Running, StandsFor, Follows, with_context}
 use Rattle.interp.specs.Written.{written}
 use Rattle.tenant_runs.specs.Storing.{maps_of_part, HasStoreFrames}
 use Rattle.host_core.specs.declared.tenant.OpenRun.{OpenRun as KeptRun}
 use Rattle.host_core.specs.World.{pins_of}
 use Rattle.host_core.specs.Happens.{sharing_after}
+
+-- the kept run on a context that it has no copy of
+abbrev pub on_context : List ℕ → KeptRun → KeptRun
+on_context context kept = record kept { run = with_context context kept.run }
 
 -- An open run of a program stands for a state whose maps are the tenant's, and just what the rest of it may
 -- need is reserved for the tenant.

@@ -26,13 +26,13 @@ pub(crate) const LOOP_OF_ONE: u8 = 2;
 pub(crate) const ALL_STEPS: u64 = 4294967296;
 
 impl OpenRun {
-    ghost use Rattle.std.specs.Prelude.{◌≡◌, ◌<◌, slice_get, List, Option, Some};
+    ghost use Rattle.std.specs.Prelude.{◌≡◌, ◌<◌, length, slice_get, List, Option, Some};
     ghost use Rattle.verifier.specs.Verified.{Accepted};
     ghost use Rattle.interp.specs.Machine.{MachineState};
     ghost use Rattle.page_table.specs.State.{MemoryState, part};
     ghost use Rattle.page_table.specs.Changes.{OtherTenantsUnchanged};
     ghost use Rattle.tenant_runs.specs.Fulfilment.{KeepsSizes};
-    ghost use Rattle.host_core.specs.Batches.{IsUnderWayAt, IsStarted, HasMadeStep, HasAdvanced};
+    ghost use Rattle.host_core.specs.Batches.{IsUnderWayAt, IsStarted, HasMadeStep, HasAdvanced, on_context};
     ghost use Rattle.host_core.specs.declared.tenant.OpenRun.{OpenRun as KeptRun};
 
     /// Makes one step: what the run returned, if it ended with it. What is reserved afterwards is what the rest of the run may
@@ -173,19 +173,21 @@ impl OpenRun {
     }
 
     /// Makes the steps that are left, where nothing is recorded as reserved for the run, as `advance_started` does without a limit: up to one
-    /// that asks for an update or a deletion, or to the end.
+    /// that asks for an update or a deletion, or to the end. Its context is the caller's, of which a run that goes on keeps a copy.
     #[inline(always)]
     pub(crate) fn finish_started<const LOOP: u8>(
         &mut self,
         program: &Verified,
+        context: &[u8],
         memory: &mut Memory,
         tenant: u32,
     ) -> Option<u64>
+        requires room { length self.old.run.context ≡ length context.now }
         requires started { (programs : List (Option Accepted)) × (s : MachineState) × (before : MemoryState)
-            × IsUnderWayAt programs self.old program.now s (part before tenant) × IsStarted program.now tenant s before memory.old }
+            × IsUnderWayAt programs (on_context context.now self.old) program.now s (part before tenant) × IsStarted program.now tenant s before memory.old }
         ensures program { self.new.program ≡ self.old.program }
         ensures advanced { (programs : List (Option Accepted)) (s : MachineState) (before : MemoryState)
-            → IsUnderWayAt programs self.old program.now s (part before tenant) → IsStarted program.now tenant s before memory.old
+            → IsUnderWayAt programs (on_context context.now self.old) program.now s (part before tenant) → IsStarted program.now tenant s before memory.old
             → HasAdvanced program.now s tenant 4294967296 self.old.run before result self.new.run memory.new }
         ensures others { OtherTenantsUnchanged tenant memory.old memory.new }
         ensures sizes { KeepsSizes memory.old memory.new }
@@ -194,7 +196,7 @@ impl OpenRun {
         let maps = TenantMaps::<LOOP> { tenant };
         // What the proof needs of the limit that there isn't: compiled code has nothing of it.
         let _most = lesser(program.instructions(), ALL_STEPS);
-        match self.run.finish_on(program, &maps, memory) {
+        match self.run.finish_on(program, context, &maps, memory) {
             Need::Ended(ret) => {
                 release(memory, tenant);
                 Some(ret)

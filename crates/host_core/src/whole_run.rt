@@ -45,7 +45,7 @@ impl OpenRun {
             return Err(fault);
         }
         memory.facts();
-        let ended = self.finish_started::<LOOP>(program, memory, number);
+        let ended = self.finish_started::<LOOP>(program, context, memory, number);
         memory.facts();
         Ok(ended)
     }

@@ -10,6 +10,7 @@ mod need;
 mod on_maps;
 mod pair;
 mod run;
+mod state;
 mod step;
 
 pub use maps::MapMemory;

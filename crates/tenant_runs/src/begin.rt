@@ -2,7 +2,7 @@ ghost use Rattle.std.specs.Prelude.{◌≡◌, ◌≤◌, false, length, IfOk, O
 ghost use Rattle.page_table.specs.State.{part, have_of};
 ghost use Rattle.page_table.specs.Changes.{OtherTenantsUnchanged, opened, with_run};
 ghost use Rattle.admission.specs.Reserve.{needed_from};
-ghost use Rattle.interp.specs.StandsFor.{IsBegun};
+ghost use Rattle.interp.specs.StandsFor.{IsBegun, with_context};
 ghost use Rattle.tenant_runs.specs.UnderWay.{RefusesOpen};
 
 use admission::{breaks, needed};
@@ -90,7 +90,8 @@ pub fn reopen_run(
 }
 
 /// Opens a run as `reopen_run` does, for a caller that makes its steps at once: what it may need may be had, and nothing of it is
-/// recorded as reserved. Most runs find more frames than all their stores may take, so that no map is looked at.
+/// recorded as reserved. Most runs find more frames than all their stores may take, so that no map is looked at. The run is begun on the
+/// caller's bytes, and has room for a copy of them.
 #[inline(always)]
 pub fn reopen_unreserved(
     memory: &mut Memory,
@@ -103,7 +104,8 @@ pub fn reopen_unreserved(
     requires none { (part memory.old tenant).running ≡ false }
     requires unreserved { (part memory.old tenant).reserve ≡ 0 }
     ensures sized { OnOk result (length context.now ≡ program.now.subject.context_size) }
-    ensures begun { OnOk result (IsBegun program.now context.now run.new) }
+    ensures begun { OnOk result (IsBegun program.now context.now (with_context context.now run.new)) }
+    ensures room { OnOk result (length run.new.context ≡ length context.now) }
     ensures steps { OnOk result (run.new.steps ≡ 0) }
     ensures enough { OnOk result (needed_from program.now (part memory.old tenant) 0 ≤ have_of memory.old) }
     ensures recorded { OnOk result (part memory.new tenant ≡ with_run 0 (part memory.old tenant)) }
@@ -130,6 +132,6 @@ pub fn reopen_unreserved(
     }
     // The run is begun last, so that compiled code knows where the first step is made.
     memory.begin_unreserved(tenant);
-    run.start(program, context);
+    run.start_on(program, context);
     Ok(())
 }

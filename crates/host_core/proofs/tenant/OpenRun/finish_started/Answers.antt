@@ -13,7 +13,7 @@ use Rattle.tenant_runs.specs.Fulfilment.{KeepsSizes}
 use Rattle.tenant_runs.specs.Storing.{maps_of_part, HasStoreFrames, HasStored}
 use Rattle.tenant_runs.proofs.OnMaps.{Keeps}
 use Rattle.tenant_runs.proofs.Rooms.{record_keeps, ended_keeps, keeps_twice}
-use Rattle.host_core.specs.Batches.{IsUnderWayAt}
+use Rattle.host_core.specs.Batches.{IsUnderWayAt, on_context}
 use Rattle.host_core.proofs.Advances.{IsStarted, stands_at, kept_on, private_room, private_advanced, ended_advanced, asked_advanced, asked_at, asking_at, asks_to_change}
 use Rattle.host_core.proofs.tenant.OpenRun.finish_started.Given.{Over}
 use Rattle.host_core.proofs.tenant.OpenRun.finish_started.Goals as goal
@@ -21,13 +21,13 @@ use Rattle.host_core.proofs.tenant.OpenRun.finish_started.Goals.{After-finish_on
 
 module _ (g : Over) (c : After-finish_on g) where
   -- from a state in which the kept run is under way
-  module _ (programs : List (Option Accepted)) (s : MachineState) (before : MemoryState) (here : IsUnderWayAt programs c.args.self.now c.args.program.now s (part before c.args.tenant)) (start : IsStarted c.args.program.now c.args.tenant s before c.args.memory.now) where
+  module _ (programs : List (Option Accepted)) (s : MachineState) (before : MemoryState) (here : IsUnderWayAt programs (on_context c.args.context.now c.args.self.now) c.args.program.now s (part before c.args.tenant)) (start : IsStarted c.args.program.now c.args.tenant s before c.args.memory.now) where
     -- so its steps are those of the standard's machine from there
     followed : (need : Need) → c.finish_on.result ≡ need
         → (n : ℕ) × FollowsOn (maps_of_part c.args.tenant) (HasStoreFrames c.args.tenant) (HasStored c.args.tenant) c.args.program.now s c.args.memory.now n need c.finish_on.new.self c.finish_on.new.memory
         × (c.finish_on.new.self.steps ≡ c.args.self.now.run.steps + n)
     followed need is =
-        let (n, follows, made) = c.finish_on.ensures.follows s (stands_at programs c.args.self.now c.args.program.now s c.args.tenant before c.args.memory.now here start) in
+        let (n, follows, made) = c.finish_on.ensures.follows s (stands_at programs (on_context c.args.context.now c.args.self.now) c.args.program.now s c.args.tenant before c.args.memory.now here start) in
         (n, subst (λ (need : Need). FollowsOn (maps_of_part c.args.tenant) (HasStoreFrames c.args.tenant) (HasStored c.args.tenant) c.args.program.now s c.args.memory.now n need c.finish_on.new.self c.finish_on.new.memory) is follows, made)
 
   -- what they keep of the memory
@@ -55,7 +55,7 @@ module _ (g : Over) (c : After-finish_on g) where
 pub finish_on-requires : goal.finish_on-requires
 finish_on-requires g c =
     let (programs, s, before, under, start) = c.requires.started in
-    record { running = (s, stands_at programs c.args.self.now c.args.program.now s c.args.tenant before c.args.memory.now under start) }
+    record { room = c.requires.room; running = (s, stands_at programs (on_context c.args.context.now c.args.self.now) c.args.program.now s c.args.tenant before c.args.memory.now under start) }
 
 pub release-requires : goal.release-requires
 release-requires g c = record { there = (kept g (goal.at.release-requires g c).After-finish_on).1 }
@@ -80,7 +80,7 @@ pub returns-in-Ended-clause-advanced : goal.returns-in-Ended-clause-advanced
 returns-in-Ended-clause-advanced g c programs s before under start =
     let at = (goal.at.returns-in-Ended-clause-advanced g c).After-finish_on in
     let sharing : c.release.new.memory.sharing ≡ released c.finish_on.new.memory.sharing c.args.tenant = ap (λ (memory : MemoryState). memory.sharing) c.release.ensures.all in
-    (ended_advanced programs c.args.self.now c.args.program.now s c.args.tenant 4294967296 c.lesser-most.result c.in-Ended.ret c.finish_on.new.self before c.args.memory.now c.finish_on.new.memory c.release.new.memory
+    (ended_advanced programs (on_context c.args.context.now c.args.self.now) c.args.program.now s c.args.tenant 4294967296 c.lesser-most.result c.in-Ended.ret c.finish_on.new.self before c.args.memory.now c.finish_on.new.memory c.release.new.memory
     start (many g at) (followed g at programs s before under start (Ended c.in-Ended.ret) c.in-Ended.is) (few g at) c.release.ensures.recorded sharing)
 
 pub returns-in-Ended-clause-others : goal.returns-in-Ended-clause-others
@@ -97,7 +97,7 @@ returns-in-Update g c =
     record {
       program = refl;
       advanced = λ programs s before under start.
-          (asked_advanced c.args.self.now c.args.program.now s c.args.tenant 4294967296 c.lesser-most.result (Update c.in-Update.map c.in-Update.key c.in-Update.flags) c.finish_on.new.self c.answer_update.new.run before c.args.memory.now c.finish_on.new.memory c.answer_update.new.memory
+          (asked_advanced (on_context c.args.context.now c.args.self.now) c.args.program.now s c.args.tenant 4294967296 c.lesser-most.result (Update c.in-Update.map c.in-Update.key c.in-Update.flags) c.finish_on.new.self c.answer_update.new.run before c.args.memory.now c.finish_on.new.memory c.answer_update.new.memory
           start (many g at) (λ is. cc) (λ number is. cc) (followed g at programs s before under start (Update c.in-Update.map c.in-Update.key c.in-Update.flags) c.in-Update.is) (few g at)
           c.answer_update.ensures.goes_on c.answer_update.ensures.reserve c.answer_update.ensures.steps c.answer_update.ensures.sharing);
       others = λ t other. c.answer_update.ensures.others t other ∙ others_kept g at t other;
@@ -110,7 +110,7 @@ returns-in-Delete g c =
     record {
       program = refl;
       advanced = λ programs s before under start.
-          (asked_advanced c.args.self.now c.args.program.now s c.args.tenant 4294967296 c.lesser-most.result (Delete c.in-Delete.map c.in-Delete.key) c.finish_on.new.self c.answer_delete.new.run before c.args.memory.now c.finish_on.new.memory c.answer_delete.new.memory
+          (asked_advanced (on_context c.args.context.now c.args.self.now) c.args.program.now s c.args.tenant 4294967296 c.lesser-most.result (Delete c.in-Delete.map c.in-Delete.key) c.finish_on.new.self c.answer_delete.new.run before c.args.memory.now c.finish_on.new.memory c.answer_delete.new.memory
           start (many g at) (λ is. cc) (λ number is. cc) (followed g at programs s before under start (Delete c.in-Delete.map c.in-Delete.key) c.in-Delete.is) (few g at)
           c.answer_delete.ensures.goes_on c.answer_delete.ensures.reserve c.answer_delete.ensures.steps c.answer_delete.ensures.sharing);
       others = λ t other. c.answer_delete.ensures.others t other ∙ others_kept g at t other;

@@ -6,6 +6,7 @@ use Rattle.page_table.specs.State.{MemoryState, part, have_of}
 use Rattle.admission.specs.Reserve.{needed_from}
 use Rattle.verifier.specs.Verified.{Accepted}
 use Rattle.interp.specs.Machine.{MachineState}
+use Rattle.interp.specs.StandsFor.{with_context}
 use Rattle.tenant_runs.specs.Fulfilment.{KeepsSizes}
 use Rattle.host_core.specs.Batches.{IsUnderWayAt, IsStarted, HasAdvanced}
 use Rattle.host_core.specs.declared.reply.Reply.{Reply}
@@ -62,13 +63,13 @@ module _ (g : Over) (c : After-facts-2 g) (programs : List (Option Accepted)) (r
   reads_it = reads_with c.args.program.now c.args.number c.args.memory.now c.facts.ensures there eight unreserved enough
 
   abbrev open_run : KeptRun
-  open_run = record { program = c.args.self.now.program; run = c.reopen_unreserved.new.run }
+  open_run = record { program = c.args.self.now.program; run = with_context c.args.context.now c.reopen_unreserved.new.run }
 
   -- the run is begun
   served : IsServed c.args.number (idle_tenant programs) c.args.memory.now (Begin c.args.number c.args.self.now.program c.args.context.now) Begun (busy_tenant programs open_run) with_it
   served =
       let call = c.in_default.ensures in
-      begin-begun c.args.number c.args.self.now.program (idle_tenant programs) c.args.memory.now with_it c.args.context.now c.reopen_unreserved.new.run c.args.program.now refl rests.found call.sized call.begun call.steps
+      begin-begun c.args.number c.args.self.now.program (idle_tenant programs) c.args.memory.now with_it c.args.context.now (with_context c.args.context.now c.reopen_unreserved.new.run) c.args.program.now refl rests.found call.sized call.begun call.steps
       (admitted c.args.program.now c.args.number c.args.memory.now c.facts.ensures there eight unreserved enough)
 
   kept_begun : IsKept c.args.number (busy_tenant programs open_run) with_it
@@ -92,7 +93,7 @@ finish_started-ended-requires g c =
     let (programs, rests) = c.requires.rests in
     let (v, s, under) = under-way-kept programs (open_run g at programs rests) c.args.number (with_it g at programs rests) (kept_begun g at programs rests) in
     let way = subst (λ p. IsUnderWayAt programs (open_run g at programs rests) p s (part (with_it g at programs rests) c.args.number)) (same g at programs rests v s under) under in
-    record { started = (programs, s, with_it g at programs rests, way, starts g at programs rests s way) }
+    record { room = c.in_default.ensures.room; started = (programs, s, with_it g at programs rests, way, starts g at programs rests s way) }
 
 module _ (g : Over) (c : After-facts-3 g) (programs : List (Option Accepted)) (rests : IsReady programs c.args.self.now.program c.args.program.now c.args.number c.args.memory.now) where
   abbrev here : After-facts-2 g
@@ -112,12 +113,12 @@ module _ (g : Over) (c : After-facts-3 g) (programs : List (Option Accepted)) (r
 
   -- its steps are those of the standard's machine
   advanced : (ended : Option ℕ) → c.finish_started-ended.result ≡ ended → (v : Accepted) (s : MachineState) → IsUnderWayAt programs begun v s (part before c.args.number)
-      → HasAdvanced v s c.args.number 4294967296 c.reopen_unreserved.new.run before ended after.run later
+      → HasAdvanced v s c.args.number 4294967296 (with_context c.args.context.now c.reopen_unreserved.new.run) before ended after.run later
   advanced ended is v s under =
       let is_same = same g here programs rests v s under in
       let way = subst (λ p. IsUnderWayAt programs begun p s (part before c.args.number)) is_same under in
-      subst (λ p. HasAdvanced p s c.args.number 4294967296 c.reopen_unreserved.new.run before ended after.run later) (sym is_same)
-      (subst (λ o. HasAdvanced c.args.program.now s c.args.number 4294967296 c.reopen_unreserved.new.run before o after.run later) is
+      subst (λ p. HasAdvanced p s c.args.number 4294967296 (with_context c.args.context.now c.reopen_unreserved.new.run) before ended after.run later) (sym is_same)
+      (subst (λ o. HasAdvanced c.args.program.now s c.args.number 4294967296 (with_context c.args.context.now c.reopen_unreserved.new.run) before o after.run later) is
       (c.finish_started-ended.ensures.advanced programs s before way (starts g here programs rests s way)))
 
   counted : c.reopen_unreserved.new.run.steps + after.run.steps ≡ after.run.steps
