@@ -114,7 +114,7 @@ impl Tenant {
             Ok(Some(ret)) => Reply::Ended { ret, steps },
             Ok(None) => {
                 self.run.is_open = true;
-                self.make_last_steps(memory, number, ALL_STEPS - u64::from(steps))
+                self.last_reply(memory, number, ALL_STEPS - u64::from(steps))
             }
             Err(fault) => Reply::Refused(fault),
         }
@@ -163,6 +163,21 @@ impl Tenant {
                 }
             }
             Stop::Refused(fault) => Err(Reply::Refused(fault)),
+        }
+    }
+
+    /// Makes the steps that are left, as `make_last_steps`. A run that ended before has no memory for this reply to clear: it is this
+    /// function's alone.
+    #[inline(always)]
+    fn last_reply(&mut self, memory: &mut Memory, number: u32, limit: u64) -> Reply
+        requires some { 0 < limit }
+        requires all { 4294967296 ≤ steps_of self.old.run + limit }
+        requires kept { IsKept number self.old memory.old }
+        ensures { HasMadeSteps number self.old memory.old limit (Some result) self.new memory.new }
+    {
+        match self.make_last_steps(memory, number, limit) {
+            Reply::Ended { ret, steps } => Reply::Ended { ret, steps },
+            last => last,
         }
     }
 

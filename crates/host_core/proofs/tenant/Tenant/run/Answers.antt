@@ -75,9 +75,9 @@ returns-in-Err c =
     let at = (goal.at.returns-in-Err c).After-steps-steps in
     closed at (Refused c.in-Err.fault) (came_to at (Err c.in-Err.fault) c.in-Err.is)
 
-pub make_last_steps-requires-clause-kept : goal.make_last_steps-requires-clause-kept
-make_last_steps-requires-clause-kept c =
-    let at = (goal.at.make_last_steps-requires-clause-kept c).After-steps-steps in
+pub last_reply-requires-clause-kept : goal.last_reply-requires-clause-kept
+last_reply-requires-clause-kept c =
+    let at = (goal.at.last_reply-requires-clause-kept c).After-steps-steps in
     let is : c.make_run-made.result ≡ Ok None = search rules in
     let goes : GoesOn _ _ _ _ _ _ _ = came_to at (Ok None) is in
     goes.is
@@ -88,6 +88,6 @@ returns-in-Ok-None c =
     let is : c.make_run-made.result ≡ Ok None = search rules in
     let goes : GoesOn _ _ _ _ _ _ _ = came_to at (Ok None) is in
     let left : 4294967296 - c.from.result ≡ 4294967296 - (after at).run.steps = ap (λ n. 4294967296 - n) (c.from.ensures ∙ c.steps-steps.ensures) in
-    let made = subst (λ n. HasMadeSteps c.args.number (busy_tenant (programs at) (after at)) c.make_run-made.new.memory n (Some c.make_last_steps.result) c.make_last_steps.new.self c.make_last_steps.new.memory) left c.make_last_steps.ensures in
-    subst (λ old. HasMadeRun c.args.number old c.args.memory.now c.args.program c.args.context.now c.make_last_steps.result c.make_last_steps.new.self c.make_last_steps.new.memory) (inside (goal.at.After-steps-steps at).In-Some)
-    (goes.whole c.make_last_steps.result c.make_last_steps.new.self c.make_last_steps.new.memory made)
+    let made = subst (λ n. HasMadeSteps c.args.number (busy_tenant (programs at) (after at)) c.make_run-made.new.memory n (Some c.last_reply.result) c.last_reply.new.self c.last_reply.new.memory) left c.last_reply.ensures in
+    subst (λ old. HasMadeRun c.args.number old c.args.memory.now c.args.program c.args.context.now c.last_reply.result c.last_reply.new.self c.last_reply.new.memory) (inside (goal.at.After-steps-steps at).In-Some)
+    (goes.whole c.last_reply.result c.last_reply.new.self c.last_reply.new.memory made)
