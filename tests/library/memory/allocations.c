@@ -181,6 +181,42 @@ static void list_of_calls(void)
     calls_on_a_text(text, sizeof text);
 }
 
+/* Programs that ran once run on while each allocation is refused, on contexts of other lengths than the run before and after an update, too: with
+ * enough frames nothing that takes memory away can make them fail. A run that goes on after an update still reads its context. */
+static void runs_take_no_memory(void)
+{
+    static const uint8_t answer[] = {0xb7, 0, 0, 0, 42, 0, 0, 0, 0x95, 0, 0, 0, 0, 0, 0, 0};
+    /* r6 = r1; key 0 at r10 - 4; value 7 at r10 - 16; update of map 0; the context's number. */
+    static const uint8_t updates[] = {
+        0xbf, 0x16, 0, 0, 0, 0, 0, 0, 0x62, 0x0a, 0xfc, 0xff, 0, 0, 0, 0, 0x7a, 0x0a, 0xf0, 0xff, 7, 0, 0, 0,
+        0x18, 0x11, 0, 0, 0, 0, 0, 0, 0, 0, 0, 0, 0, 0, 0, 0, 0xbf, 0xa2, 0, 0, 0, 0, 0, 0, 0x07, 2, 0, 0, 0xfc, 0xff, 0xff, 0xff,
+        0xbf, 0xa3, 0, 0, 0, 0, 0, 0, 0x07, 3, 0, 0, 0xf0, 0xff, 0xff, 0xff, 0xb7, 4, 0, 0, 0, 0, 0, 0, 0x85, 0, 0, 0, 2, 0, 0, 0,
+        0x79, 0x60, 0, 0, 0, 0, 0, 0, 0x95, 0, 0, 0, 0, 0, 0, 0,
+    };
+    struct bpf_host host = {0};
+    struct bpf_host_options options = BPF_HOST_OPTIONS;
+    struct bpf_host_refused refused = {0, 0, 0};
+    uint8_t context[64] = {0};
+    uint32_t number;
+    wanted(bpf_host_new(8, 1, &options, &host) == 0, "no host");
+    wanted(bpf_host_create_map(&host, 0, 8, 1, true, &number, &refused) == 0, "no map");
+    wanted(bpf_host_load(&host, 0, answer, sizeof answer, 64, &number, &refused) == 0, "the answer isn't loaded");
+    wanted(bpf_host_load(&host, 0, updates, sizeof updates, 8, &number, &refused) == 0, "the update isn't loaded");
+    for (unsigned round = 0; round < 9; round++) {
+        struct bpf_host_run run = {0, 0};
+        uint64_t rets[4] = {0};
+        left_until_refused = round > 0;
+        wanted(bpf_host_run(&host, 0, 0, context, 64, &run, &refused) == 0 && run.ret == 42, "another run of 64 bytes");
+        context[0] = (uint8_t)(round + 1), context[8] = 5;
+        wanted(bpf_host_run(&host, 0, 1, context, 8, &run, &refused) == 0 && run.ret == round + 1 && run.steps == 12, "another run with an update");
+        wanted(bpf_host_run_many(&host, 0, 1, context, 32, rets, 4, &refused) == 0, "refused runs with updates");
+        wanted(rets[0] == round + 1 && rets[1] == 5, "other runs with updates");
+        wanted(left_until_refused == (round > 0), "a later run takes memory");
+    }
+    left_until_refused = 0;
+    bpf_host_free(&host);
+}
+
 int main(void)
 {
     unsigned refused = 0;
@@ -189,6 +225,8 @@ int main(void)
         left_until_refused = refused;
         list_of_calls();
     } while (left_until_refused == 0 && refused < 10000);
+    left_until_refused = 0;
+    runs_take_no_memory();
     wanted(lacked == refused - 1, "an allocation was refused, and no call said so");
     for (unsigned number = 1; explain_without(number) && number < 10000; number++)
         refused++;
