@@ -2,7 +2,7 @@
  *
  * Bytes are those that malloc says are in use. A program of 4,096 slots moves constants. With a file: the times of bpf_host_read_object for the
  * function NAME and contexts of SIZE bytes, of bpf_host_load_object and of bpf_host_run on zeros, the least of ROUNDS (20), of runs a hundred a
- * round. Exits 1 where a call is refused. */
+ * round; and what 1,000 customers hold who each loaded it, 15 to a host. Exits 1 where a call is refused. */
 #define _POSIX_C_SOURCE 200809L
 #include "bpf_host.h"
 #include "measure.h"
@@ -10,7 +10,7 @@
 #include <malloc.h>
 #include <string.h>
 
-enum { SLOTS = 4096, RUNS = 100, CONTEXT = 256 };
+enum { SLOTS = 4096, RUNS = 100, CONTEXT = 256, CUSTOMERS = 1000, TENANTS = 16, SPARE = 1, PAGE = 4096 };
 
 static const uint32_t HOSTS[][2] = {{2, 1}, {32, 2}, {64, 16}, {1024, 16}, {4096, 16}};
 
@@ -87,6 +87,35 @@ static uint32_t measure(struct bpf_host *host, int rounds, size_t size, const ch
     return code;
 }
 
+/* How many pages the maps of the object have. */
+static uint32_t pages(void)
+{
+    uint32_t found = 0;
+    for (uint32_t map = 0; map < object.maps_len; map++)
+        found += (object.maps[map].shape.value_size * object.maps[map].shape.entries + PAGE - 1) / PAGE;
+    return found;
+}
+
+/* What 1,000 customers hold who each loaded the object: hosts of 16 tenants, one of which is spare, with a frame for each page of each
+ * tenant's maps, one for zeros, and as many again for a run. */
+static uint32_t customers(void)
+{
+    static struct bpf_host each[CUSTOMERS / (TENANTS - SPARE) + 1];
+    struct bpf_host_options options = BPF_HOST_OPTIONS;
+    uint32_t program, code = 0, hosts = 0;
+    size_t before = held();
+    for (uint32_t customer = 0; customer < CUSTOMERS; customer++) {
+        uint32_t tenant = customer % (TENANTS - SPARE);
+        if (tenant == 0)
+            code |= bpf_host_new((TENANTS + 1) * pages() + 1, TENANTS, &options, &each[hosts++]);
+        code |= bpf_host_load_object(&each[hosts - 1], tenant, &object, false, &program, &refused);
+    }
+    printf("%u customers in %u hosts hold %zu MiB\n", CUSTOMERS, hosts, (held() - before) >> 20);
+    while (hosts > 0)
+        bpf_host_free(&each[--hosts]);
+    return code;
+}
+
 int main(int words, char **word)
 {
     struct bpf_host_options options = BPF_HOST_OPTIONS;
@@ -96,6 +125,7 @@ int main(int words, char **word)
         FILE *upload = fopen(word[2], "rb");
         size_t size = upload ? fread(file, 1, sizeof file, upload) : 0;
         code |= measure(&host, number_of(words, word, 1, 20), size, word[3], (uint32_t)number_of(words, word, 4, 0));
+        code |= customers();
     }
     bpf_host_free(&host);
     return code != 0;
