@@ -196,16 +196,22 @@ static const struct form {
     {"Rsh32", 0x74, 0x7c}, {"Arsh32", 0xc4, 0xcc}, {"LoadImmediate", 0x18, 0x18}, {"LoadByte", 0x71, 0x71}, {"LoadWord", 0x61, 0x61},
     {"LoadDoubleWord", 0x79, 0x79}, {"StoreDoubleWord", 0x7a, 0x7b}, {"JumpByOffset", 0x05, 0x05}, {"Equal64", 0x15, 0x1d},
     {"NotEqual64", 0x55, 0x5d}, {"Less64", 0xa5, 0xad}, {"Greater64", 0x25, 0x2d}, {"Equal32", 0x16, 0x1e}, {"Less32", 0xa6, 0xae},
-    {"Call", 0x85, 0x85}, {"Exit", 0x95, 0x95},
+    {"Lookup", CALL, CALL}, {"Exit", 0x95, 0x95},
 };
+
+/* Whether a code is of a form; of the calls only those of the helper that looks up are of one. */
+static bool is_of(const struct form *form, uint32_t code)
+{
+    uint32_t opcode = code & 255;
+    return (opcode == form->opcode || opcode == form->other) && (opcode != CALL || (code >> 8 & 3) == LOOKUP);
+}
 
 /* Marks the codes that two forms have, one after the other. */
 static void mark_pair(const struct form *first, const struct form *second, int mark)
 {
     for (uint32_t a = 0; a < code_count; a++)
         for (uint32_t b = 0; b < code_count; b++)
-            if (((opcodes[a] & 255) == first->opcode || (opcodes[a] & 255) == first->other)
-                && ((opcodes[b] & 255) == second->opcode || (opcodes[b] & 255) == second->other))
+            if (is_of(first, opcodes[a]) && is_of(second, opcodes[b]))
                 marks[a][b][0] = (uint8_t)mark;
 }
 
