@@ -4,7 +4,7 @@ ghost use Rattle.page_table.specs.State.{part, map_bytes};
 ghost use Rattle.interp.specs.OnMaps.{HasRoomFor};
 ghost use Rattle.tenant_runs.specs.Storing.{maps_of_part, HasStoreFrames, HasStored};
 
-use crate::needs::look_up;
+use crate::needs::look_up_known;
 use bpf_decode::Size;
 use host_types::MapNo;
 use interp::MapMemory;
@@ -37,7 +37,7 @@ impl<const LOOP: u8> MapMemory for TenantMaps<LOOP> {
 
     #[inline(always)]
     fn lookup(&self, memory: &Memory, map: MapNo, key: u32) -> u64 {
-        look_up(memory, self.tenant, map, key)
+        look_up_known(memory, self.tenant, map, key)
     }
 
     #[inline(always)]

@@ -1,4 +1,4 @@
-ghost use Rattle.std.specs.Prelude.{◌≡◌, ◌+◌, ◌≤◌, length, option_map, unwrap_or};
+ghost use Rattle.std.specs.Prelude.{◌≡◌, ◌+◌, ◌≤◌, length, option_map, unwrap_or, IsSome};
 ghost use Rattle.host_types.specs.Helpers.{lookup_answer};
 ghost use Rattle.host_types.specs.Memory.{FlatMap, map_at};
 ghost use Rattle.page_table.specs.State.{part, have_of};
@@ -49,6 +49,19 @@ pub fn fulfil(memory: &mut Memory, tenant: u32, need: Need, value: &[u8]) -> u64
         }
         Need::Delete { .. } => delete(),
         Need::Private | Need::Ended(_) => unreachable!(),
+    }
+}
+
+/// What the helper `lookup` answers in a map that the tenant has. A verified run looks up in no other: compiled code tests nothing of it.
+#[inline(always)]
+pub(crate) fn look_up_known(memory: &Memory, tenant: u32, map: MapNo, key: u32) -> u64
+    requires eight { length (part memory.now tenant).maps ≡ 8 }
+    requires there { IsSome (map_at (part memory.now tenant).maps map) }
+    ensures { result ≡ unwrap_or (option_map (λ (flat : FlatMap). lookup_answer flat.shape map key) (map_at (part memory.now tenant).maps map)) 0 }
+{
+    match memory.shape(tenant, map) {
+        Some(shape) => lookup(shape, map, key),
+        None => unreachable!(),
     }
 }
 
