@@ -52,7 +52,7 @@ pub fn fulfil(memory: &mut Memory, tenant: u32, need: Need, value: &[u8]) -> u64
     }
 }
 
-/// What the helper `lookup` answers in a map that the tenant has. A verified run looks up in no other: compiled code tests nothing of it.
+/// What the helper `lookup` answers in a map that the tenant has. A verified run looks up in no other.
 #[inline(always)]
 pub(crate) fn look_up_known(memory: &Memory, tenant: u32, map: MapNo, key: u32) -> u64
     requires eight { length (part memory.now tenant).maps ≡ 8 }
