@@ -74,7 +74,7 @@ int main(int argc, char **argv)
     uint32_t tenant = 0, program;
     must(bpf_host_new(32, 2, &options, &host));                                    /* 32 pages for maps; tenants 0, 1 */
     must(bpf_host_read_object(file, size, "admit", 5, 8, &object, &refused));      /* verifies it: a name of 5 bytes, inputs of 8 */
-    must(bpf_host_load_object(&host, tenant, &object, false, &program, &refused)); /* makes its maps; false: no page is merged */
+    must(bpf_host_load_object(&host, tenant, &object, false, &program, &refused)); /* makes its maps */
     must(bpf_host_run(&host, tenant, program, packet, 8, &run, &refused));
     printf("%llu\n", (unsigned long long)run.ret);
     for (int upload = 2; upload < argc; upload++) {
