@@ -73,7 +73,7 @@ int main(int argc, char **argv)
     struct bpf_host_run run;
     uint32_t tenant = 0, program;
     must(bpf_host_new(32, 2, &options, &host));                                    /* 32 pages for maps; tenants 0, 1 */
-    must(bpf_host_read_object(file, size, "admit", 5, 8, &object, &refused));      /* verifies function admit (5 bytes), 8-byte inputs */
+    must(bpf_host_read_object(file, size, "admit", 5, 8, &object, &refused));      /* verifies admit (name length 5), 8-byte inputs */
     must(bpf_host_load_object(&host, tenant, &object, false, &program, &refused)); /* makes its maps */
     must(bpf_host_run(&host, tenant, program, packet, 8, &run, &refused));         /* completes, or is refused before its first step */
     printf("%llu\n", (unsigned long long)run.ret);
