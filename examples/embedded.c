@@ -72,10 +72,12 @@ int main(int argc, char **argv)
     struct bpf_host_options options = BPF_HOST_OPTIONS;
     struct bpf_host_run run;
     uint32_t tenant = 0, program;
-    must(bpf_host_new(32, 2, &options, &host));                                    /* 32 pages for maps; tenants 0, 1 */
-    must(bpf_host_read_object(file, size, "admit", 5, 8, &object, &refused));      /* verifies admit (name length 5), 8-byte inputs */
+    uint8_t count[8];
+    must(bpf_host_new(32, 2, &options, &host));                                    /* 32 pages of 4 KiB; tenants 0 and 1 */
+    must(bpf_host_read_object(file, size, "admit", 5, 8, &object, &refused));      /* verifies admit (5 letters, 8-byte inputs), or says why not */
     must(bpf_host_load_object(&host, tenant, &object, false, &program, &refused)); /* makes its maps */
-    must(bpf_host_run(&host, tenant, program, packet, 8, &run, &refused));         /* completes, or is refused before its first step */
+    must(bpf_host_run(&host, tenant, program, packet, 8, &run, &refused));         /* sets run.ret, or is refused before starting */
+    must(bpf_host_lookup(&host, tenant, 0, 53, count, 8));                         /* copies element 53 of map 0 */
     printf("%llu\n", (unsigned long long)run.ret);
     for (int upload = 2; upload < argc; upload++) {
         replace(&host, receive(argv[upload]), &tenant, &program);
