@@ -1,9 +1,9 @@
 /* Runs a filter from an object file in a program of C, and then further ones, each in place of the one before (docs/EMBEDDING.md). At the top:
  *
- *     clang -g -O2 -target bpf -c examples/ports.c -o ports.o
- *     cc examples/embedded.c -Iinclude $(tools/static_library) -o embedded && ./embedded ports.o
+ *     clang -g -O2 -target bpf -c examples/caps.c -o caps.o
+ *     cc examples/embedded.c -Iinclude $(tools/static_library) -o embedded && ./embedded caps.o
  *
- * It prints 1: the first packet to a port passes. Of a file that is refused it prints why, with the line of C. */
+ * It prints 200, since a client's first request passes, and what its map has of it. Of a file that is refused it prints why, with the line of C. */
 #include "bpf_host.h"
 #include <stdio.h>
 #include <stdlib.h>
@@ -13,8 +13,8 @@ static uint8_t file[1 << 20];
 static struct bpf_host_object object;
 static struct bpf_host_refused refused;
 
-/* A `struct packet` to port 53. */
-static const uint8_t packet[8] = {53};
+/* A `struct request` of client 7. */
+static const uint8_t request[8] = {7};
 
 /* Prints a refusal's name and, of an upload, why: once, since a later refusal has another reason. */
 static void print_refusal(uint32_t code)
@@ -23,13 +23,18 @@ static void print_refusal(uint32_t code)
     object.why[0] = 0;
 }
 
+/* Says why an upload is refused, and what the program exits with. */
+static int reject(uint32_t code)
+{
+    print_refusal(code);
+    return 1;
+}
+
 /* Ends the program where a call was refused. */
 static void must(uint32_t code)
 {
-    if (code != 0) {
-        print_refusal(code);
-        exit(1);
-    }
+    if (code != 0)
+        exit(reject(code));
 }
 
 /* Reads an upload, and returns how many bytes it has. */
@@ -71,19 +76,25 @@ int main(int argc, char **argv)
     struct bpf_host host = {0};
     struct bpf_host_options options = BPF_HOST_OPTIONS;
     struct bpf_host_run run;
-    uint32_t tenant = 0, program;
-    uint8_t count[8];
-    must(bpf_host_new(32, 2, &options, &host));                                    /* 32 pages of 4 KiB; tenants 0 and 1 */
-    must(bpf_host_read_object(file, size, "admit", 5, 8, &object, &refused));      /* verifies admit (5 letters, 8-byte inputs), or says why not */
-    must(bpf_host_load_object(&host, tenant, &object, false, &program, &refused)); /* makes its maps */
-    must(bpf_host_run(&host, tenant, program, packet, 8, &run, &refused));         /* sets run.ret, or is refused before starting */
-    must(bpf_host_lookup(&host, tenant, 0, 53, count, 8));                         /* copies element 53 of map 0 */
-    printf("%llu\n", (unsigned long long)run.ret);
-    for (int upload = 2; upload < argc; upload++) {
+    uint32_t code, tenant = 0, program;
+    uint8_t window[8];
+    must(bpf_host_new(32, 2, &options, &host));                     /* 32 pages of 4 KiB; tenants 0 and 1 */
+    /* Verifies admit (5 letters; inputs of 8 bytes), then makes its maps (false: their pages are never merged). */
+    code = bpf_host_read_object(file, size, "admit", 5, 8, &object, &refused);
+    if (code == 0)
+        code = bpf_host_load_object(&host, tenant, &object, false, &program, &refused);
+    if (code != 0)
+        return reject(code);                                        /* object.why says why, with the line of C */
+    for (int upload = 2;; upload++) {
+        code = bpf_host_run(&host, tenant, program, request, 8, &run, &refused);
+        uint64_t status = code == 0 ? run.ret : 503;                    /* a refused run didn't start */
+        printf("%llu\n", (unsigned long long)status);
+        if (upload >= argc)
+            break;
         replace(&host, receive(argv[upload]), &tenant, &program);
-        must(bpf_host_run(&host, tenant, program, packet, 8, &run, &refused));
-        printf("%llu\n", (unsigned long long)run.ret);
     }
+    must(bpf_host_lookup(&host, tenant, 0, 7, window, 8));          /* copies element 7 of map 0: the client's window */
+    printf("requests: %u\n", window[4]);
     bpf_host_free(&host);
     return 0;
 }

@@ -39,6 +39,7 @@
  *     no copy of it beside it.
  *   - At most one call at a time uses a handle. Another thread may continue with it after a lock, the start or join of a thread, or a
  *     sequentially consistent atomic, any of which orders the calls of one thread before those of the other.
+ *     Each call writes to its handle: handles that several threads use are faster in different lines of the cache.
  *   - No call is made from a signal handler, or from the child of a process that had several threads when it forked.
  *   - malloc, realloc and free are the C library's, or others that align as it does, up to 16.
  * bpf_host_free closes a host; one that isn't closed keeps its memory. */
