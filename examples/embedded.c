@@ -79,7 +79,7 @@ int main(int argc, char **argv)
     uint32_t code, tenant = 0, program;
     uint8_t window[8];
     must(bpf_host_new(32, 2, &options, &host));                     /* 32 pages of 4 KiB; tenants 0 and 1 */
-    /* Verifies admit (5 letters; inputs of 8 bytes), then makes its maps (false: their pages are never merged). */
+    /* Reading verifies (5: length of "admit"; 8: bytes of input); loading makes maps (false: their pages are never merged). */
     code = bpf_host_read_object(file, size, "admit", 5, 8, &object, &refused);
     if (code == 0)
         code = bpf_host_load_object(&host, tenant, &object, false, &program, &refused);
