@@ -7,6 +7,7 @@
 #include "bpf_host.h"
 #include <stdio.h>
 #include <stdlib.h>
+#include <string.h>
 
 /* An upload, of which at most so many bytes are read, and its program. They are static since they are large. */
 static uint8_t file[1 << 20];
@@ -59,7 +60,7 @@ static void unload(struct bpf_host *host, uint32_t tenant, uint32_t program)
 static void replace(struct bpf_host *host, size_t size, uint32_t *tenant, uint32_t *program)
 {
     uint32_t spare = 1 - *tenant, next;
-    uint32_t code = bpf_host_read_object(file, size, "admit", 5, 8, &object, &refused);
+    uint32_t code = bpf_host_read_object(file, size, "admit", strlen("admit"), 8, &object, &refused);
     if (code == 0)
         code = bpf_host_load_object(host, spare, &object, false, &next, &refused);
     if (code != 0) {
@@ -79,14 +80,14 @@ int main(int argc, char **argv)
     uint32_t code, tenant = 0, program;
     uint8_t window[8];
     must(bpf_host_new(32, 2, &options, &host));                     /* 32 pages of 4 KiB; tenants 0 and 1 */
-    /* Reading verifies (5: length of "admit"; 8: bytes of input); loading makes maps (false: their pages are never merged). */
-    code = bpf_host_read_object(file, size, "admit", 5, 8, &object, &refused);
+    /* For each upload: reading verifies (inputs have 8 bytes), and loading makes its maps. */
+    code = bpf_host_read_object(file, size, "admit", strlen("admit"), 8, &object, &refused);
     if (code == 0)
         code = bpf_host_load_object(&host, tenant, &object, false, &program, &refused);
     if (code != 0)
         return reject(code);                                        /* object.why says why, with the line of C */
     for (int upload = 2;; upload++) {
-        code = bpf_host_run(&host, tenant, program, request, 8, &run, &refused);
+        code = bpf_host_run(&host, tenant, program, request, 8, &run, &refused); /* for each request */
         uint64_t status = code == 0 ? run.ret : 503;                    /* a refused run didn't start */
         printf("%llu\n", (unsigned long long)status);
         if (upload >= argc)
