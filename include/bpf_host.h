@@ -14,7 +14,8 @@
  * WHAT A CALL RETURNS. BPF_HOST_DONE, which is 0, or a refusal; bpf_host_code_name returns its name. Each call lists its refusals without BPF_HOST_,
  * in the order in which they are tested; docs/HOST.md says when each is returned.
  *     a rule           1 to 25: the program breaks this rule of the verifier, at the slot `refused->slot`
- *     NO_FRAMES        more frames are needed than are available: `refused->need` and `refused->have`
+ *     NO_FRAMES        more frames are needed than are available: `refused->need` and `refused->have`. Not where the host has two frames for
+ *                      each page of its maps, also of one that is to be made, and two more
  *     OUT_OF_MEMORY    no other refusal applies; but bpf_host_load returns it before 11 to 25 if there is no memory to verify the text,
  *                      and bpf_host_read_object before 103 and a rule
  *     CLOSED           the handle is closed

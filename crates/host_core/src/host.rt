@@ -1,5 +1,6 @@
 ghost use Rattle.std.specs.Prelude.{◌≡◌, ◌≢◌, ◌<◌, ◌≤◌, ◌↔◌, ◌⊎◌, ◌*◌, ℕ, length, IsSome, IsTrue, None, IfOk, OnOk, IfErr, OnErr, option_map};
 ghost use Rattle.host_types.specs.Memory.{map_at};
+ghost use Rattle.page_table.specs.Reads.{ReadsAs};
 ghost use Rattle.page_table.specs.State.{part};
 ghost use Rattle.host_types.specs.OptionTable.{AreOptions};
 ghost use Rattle.page_table.specs.Changes.{RefusesMemory};
@@ -239,6 +240,13 @@ impl Host {
             rets,
             from,
         )
+    }
+
+    /// What holds of each host's memory: how its frames and its shared pages read together. The function does nothing.
+    pub fn facts(&self)
+        ensures { ReadsAs self.now.memory }
+    {
+        self.memory.facts();
     }
 
     /// The shape of a tenant's map, if it has one of this number.

@@ -1,0 +1,19 @@
+-- Which calls aren't refused for lack of frames.
+use Rattle.std.specs.Prelude.{◌≡◌, ℕ, false}
+use Rattle.host_core.specs.declared.reply.Reply.{Reply}
+use Rattle.host_core.specs.HostView.{HostView, StandsForSystem}
+use Rattle.host_core.specs.World.{System}
+use Rattle.library_calls.specs.Isolation.{Call, once, CallHappens}
+use Rattle.enough_frames.specs.Frames.{pages_made, AreEnough, lacks_frames}
+
+-- how many pages a call is to make
+abbrev pub pages_made_by : Call → ℕ
+pages_made_by (once event) = pages_made event
+pages_made_by call = 0
+
+-- Where there are enough frames, the next call isn't refused for lack of them: whatever happened before, whichever pages share frames, and
+-- whichever runs are open.
+abbrev pub NextHasFrames : HostView → Type 0
+NextHasFrames view =
+    (x x' : System) (call : Call) (reply : Reply) → StandsForSystem view x → AreEnough x (pages_made_by call) → CallHappens call reply x x'
+    → lacks_frames reply ≡ false
