@@ -2,11 +2,11 @@
 use Rattle.std.proofs.Common.{◌≡◌, ◌∙◌, ℕ, ◌+◌, ◌*◌, ◌/◌, ◌%◌, ◌<◌, ◌≤◌, nat_lt, Bool, [], length, sum_by, Option, Some, None, is_some, IfSome, IsSome, option_map, unwrap_or, refl, sym, ap, subst, arith}
 use Rattle.std.proofs.lemmas.Bool.Decides.{nat_tests}
 use Rattle.host_types.specs.Memory.{FlatMap, FlatMaps, map_at}
-use Rattle.host_types.specs.Sharing.{PageState, state_at, own_frame}
+use Rattle.host_types.specs.Sharing.{Sharing, PageState, state_at, own_frame}
 use Rattle.host_types.specs.Tenant.{IsFlatMap}
 use Rattle.host_types.specs.Unmerging.{members, zeros_at, zero_pages}
 use Rattle.host_types.proofs.Without.{one_when}
-use Rattle.host_types.proofs.Unmerging.{listed, state_inside}
+use Rattle.host_types.proofs.Unmerging.{listed, state_inside, AreListed}
 use Rattle.page_table.specs.Reads.{ReadsAs, HasPage}
 use Rattle.page_table.specs.State.{MemoryState}
 use Rattle.enough_frames.specs.Frames.{map_pages, pages_in}
@@ -58,8 +58,9 @@ module _ (maps : FlatMaps) (flat : (k : ℕ) → IfSome (map_at maps k) IsFlatMa
       omega (arith, all, in_list, split, whole)
 
 -- the facts of a memory that are needed
-in_groups : (memory : MemoryState) → ReadsAs memory → AreInGroups memory.sharing
-in_groups memory reads = record { ordered = reads.groups.ordered; grouped = reads.groups.grouped; once = reads.groups.once }
+pub in_groups : (memory : MemoryState) → ReadsAs memory → AreInGroups memory.sharing
+in_groups memory reads =
+    record { some = reads.groups.some; ordered = reads.groups.ordered; grouped = reads.groups.grouped; once = reads.groups.once }
 
 some_page : (memory : MemoryState) (i : ℕ) → ReadsAs memory → one_when (is_some (state_at memory.sharing i)) ≤ one_when (has_page memory.maps i)
 some_page memory i reads = by_state (state_at memory.sharing i) refl
@@ -73,28 +74,35 @@ some_page memory i reads = by_state (state_at memory.sharing i) refl
         let test : one_when (has_page memory.maps i) ≡ 1 = grind (arith, nat_tests, has) in
         omega (arith, one, test)
 
+-- how many pages are there
+abbrev pub present : Sharing → ℕ
+present s = sum_by (λ (page : Option PageState). one_when (is_some page)) s.pages
+
+pub present-few : (memory : MemoryState) → ReadsAs memory → ((k : ℕ) → IfSome (map_at memory.maps k) IsFlatMap) → present memory.sharing ≤ pages_in memory.maps
+present-few memory reads flat =
+    let n : ℕ = length memory.sharing.pages in
+    let all = sum_below-list (λ (page : Option PageState). one_when (is_some page)) memory.sharing.pages None in
+    let most = sum_below-le (λ i. one_when (is_some (state_at memory.sharing i))) (λ i. one_when (has_page memory.maps i)) n (λ i below. some_page memory i reads) in
+    let few = pages-few memory.maps flat 256 n refl in
+    omega (arith, all, most, few)
+
 -- Each page is counted once at most: in a group, on the frame of zeros, or with a frame of its own.
-pub pages-held : (memory : MemoryState) → ReadsAs memory → ((k : ℕ) → IfSome (map_at memory.maps k) IsFlatMap)
-    → members memory.sharing + zero_pages memory.sharing + sum_by own_frame memory.sharing.pages ≤ pages_in memory.maps
+pub taken-present : (s : Sharing) → AreListed s → members s + zero_pages s + sum_by own_frame s.pages ≤ present s
 unfolding members zero_pages
-pages-held memory reads flat =
-    let s = memory.sharing in
+taken-present s are =
     let n : ℕ = length s.pages in
-    let are = in_groups memory reads in
-    let inside : (i : ℕ) → 1 ≤ listed i s.groups → i < n = λ i some. by_state i some (state_at s i) refl in
-    let grouped = lengths-listed n s.groups inside in
+    let grouped = lengths-listed n s.groups (λ i some. inside i some (state_at s i) refl) in
     let zeros = sum_below-list zeros_at s.pages None in
     let owns = sum_below-list own_frame s.pages None in
+    let all = sum_below-list (λ (page : Option PageState). one_when (is_some page)) s.pages None in
     let first = sum_below-plus (λ i. listed i s.groups) (λ i. zeros_at (state_at s i)) n in
     let both = sum_below-plus (λ i. listed i s.groups + zeros_at (state_at s i)) (λ i. own_frame (state_at s i)) n in
-    let most = sum_below-le (counted_at s) (λ i. one_when (has_page memory.maps i)) n
-    (λ i below. let once = counted_once s i are in let page = some_page memory i reads in omega (arith, once, page)) in
-    let few = pages-few memory.maps flat 256 n refl in
-    omega (arith, grouped, zeros, owns, first, both, most, few)
+    let most = sum_below-le (counted_at s) (λ i. one_when (is_some (state_at s i))) n (λ i below. counted_once s i are) in
+    omega (arith, grouped, zeros, owns, all, first, both, most)
   where
-    by_state : (i : ℕ) → 1 ≤ listed i memory.sharing.groups → (page : Option PageState) → state_at memory.sharing i ≡ page → i < length memory.sharing.pages
-    by_state i some None e =
-        let once = counted_once memory.sharing i (in_groups memory reads) in
+    inside : (i : ℕ) → 1 ≤ listed i s.groups → (page : Option PageState) → state_at s i ≡ page → i < length s.pages
+    inside i some None e =
+        let once = counted_once s i are in
         let none = ap (λ (p : Option PageState). one_when (is_some p)) e in
         absurd (omega (arith, some, once, none))
-    by_state i some (Some state) e = state_inside memory.sharing.pages i state e
+    inside i some (Some state) e = state_inside s.pages i state e

@@ -25,7 +25,7 @@ use Rattle.host_core.specs.World.{OpenRun, Tenant, System, accepted_of, owned_by
 use Rattle.host_core.specs.Happens.{Answers, RefusedOr, OfTenant, Happens, AllHappen, StepsHappen, StepLeads, StepHappens, CreateHappens, LoadHappens, BeginHappens, UpdateHappens, LookupHappens, UnloadHappens, DropHappens, unless_busy, create_refusal, load_refusal, begin_refusal, host_update_refusal, unload_refusal, drop_refusal}
 use Rattle.host_calls.specs.Programs.{subject_of}
 use Rattle.enough_frames.specs.Frames.{map_pages, pages_in, pages_made, AreEnough, lacks_frames}
-use Rattle.enough_frames.proofs.Systems.{Balances, need-few, have-idle, have-unmerging}
+use Rattle.enough_frames.proofs.Systems.{Kept, Balances, need-few, have-idle, have-unmerging}
 
 -- the reply is no refusal for lack of frames
 abbrev pub Has : Reply → Type 0
@@ -89,7 +89,7 @@ creates x t shape mergeable reply x' is enough tenant there h =
   where
     missing : tenant.run ≡ None → nat_lt (have_in x) (page_count shape) ≡ true → ⊥
     missing idle short =
-        let have = have-idle x (page_count shape) t tenant is there idle enough in
+        let have = have-idle x (page_count shape) t tenant is.kept there idle enough in
         let less : have_in x < page_count shape = grind (arith, nat_tests, short) in
         omega (arith, have, less)
 
@@ -99,7 +99,7 @@ loads x t tenant p reply x' (LoadHappens.unlawful well refusal is h) = answered 
 loads x t tenant p reply x' (LoadHappens.out_of_memory well h) = answered (Refused fault.OutOfMemory) reply refl h.0
 loads x t tenant p reply x' (LoadHappens.loaded well table tight k free h) = answered (Program k) reply refl h.0
 
-begins : (x : System) (t : ℕ) (tenant : Tenant) (k : ℕ) (context : List ℕ) (reply : Reply) (x' : System) → Balances x → AreEnough x 0
+begins : (x : System) (t : ℕ) (tenant : Tenant) (k : ℕ) (context : List ℕ) (reply : Reply) (x' : System) → Kept x → AreEnough x 0
     → slice_get x.world t ≡ Some tenant → tenant.run ≡ None → BeginHappens x t tenant k context reply x' → Has reply
 begins x t tenant k context reply x' is enough there idle (p, at, inl h) =
     let have = have-idle x 0 t tenant is there idle enough in
@@ -108,6 +108,12 @@ begins x t tenant k context reply x' is enough there idle (p, at, inl h) =
     absurd (omega (arith, have, need, less))
 begins x t tenant k context reply x' is enough there idle (p, at, inr (has, inl h)) = answered (Refused fault.OutOfMemory) reply refl h.0
 begins x t tenant k context reply x' is enough there idle (p, at, inr (has, inr h)) = answered Begun reply refl h.0
+
+pub begun : (x : System) (t k : ℕ) (context : List ℕ) (reply : Reply) (x' : System) → Kept x → AreEnough x 0 → Happens x (Begin t k context) reply x' → Has reply
+begun x t k context reply x' is enough h = of_tenant x t reply x' _ (λ tenant there begun.
+    refused_or (begin_refusal tenant k context) x reply x' (BeginHappens x t tenant k context reply x')
+    (or_else _ fault.Busy _ (λ _. refl) (or_else _ fault.NoProgram _ (λ _. refl) (or_else _ fault.BadContext _ (λ _. refl) nothing_more)))
+    (λ none. begins x t tenant k context reply x' is enough there (no_run tenant.run (none_first _ fault.Busy _ none))) begun) h
 
 leads : (x : System) (t : ℕ) (tenant : Tenant) (r : OpenRun) (sharing : Sharing) (outcome : Outcome) (reply : Reply) (x' : System)
     → StepLeads x t tenant r sharing outcome reply x' → Has reply
@@ -160,7 +166,7 @@ updates x t m key value reply x' is enough tenant there h =
   where
     missing : tenant.run ≡ None → (flat : FlatMap) → map_at tenant.maps m ≡ Some flat → nat_lt (have_in x) (update_charge flat.shape) ≡ true → ⊥
     missing idle flat at short =
-        let have = have-idle x 0 t tenant is there idle enough in
+        let have = have-idle x 0 t tenant is.kept there idle enough in
         let less : have_in x < update_charge flat.shape = grind (arith, nat_tests, short) in
         let two = charge-two flat.shape in
         let flat_there : IsFlatMap flat = subst (λ slot. IfSome slot IsFlatMap) at (is.flat t tenant there m) in
@@ -202,10 +208,7 @@ happens x (Load t text size) reply x' is enough h = of_tenant x t reply x' _ (λ
     refused_or (load_refusal tenant size) x reply x' (LoadHappens x t tenant (subject_of (owned_by x.sharing t tenant) text size) reply x')
     (or_else _ fault.Busy _ (λ _. refl) (or_else _ fault.TooManyPrograms _ (λ _. refl) (or_else _ fault.BadContext _ (λ _. refl) nothing_more)))
     (λ _ loaded. loads x t tenant (subject_of (owned_by x.sharing t tenant) text size) reply x' loaded) k) h
-happens x (Begin t k context) reply x' is enough h = of_tenant x t reply x' _ (λ tenant there begun.
-    refused_or (begin_refusal tenant k context) x reply x' (BeginHappens x t tenant k context reply x')
-    (or_else _ fault.Busy _ (λ _. refl) (or_else _ fault.NoProgram _ (λ _. refl) (or_else _ fault.BadContext _ (λ _. refl) nothing_more)))
-    (λ none. begins x t tenant k context reply x' is enough there (no_run tenant.run (none_first _ fault.Busy _ none))) begun) h
+happens x (Begin t k context) reply x' is enough h = begun x t k context reply x' is.kept enough h
 happens x (Step t) reply x' is enough h = steps x t reply x' h
 happens x Visit reply x' is enough h = answered (WasVisited h.0) reply refl h.1.2.0
 happens x (HostUpdate t m key value) reply x' is enough h = of_tenant x t reply x' _ (updates x t m key value reply x' is enough) h
@@ -220,7 +223,7 @@ happens x (DropMap t m) reply x' is enough h = of_tenant x t reply x' _ (λ tena
 happens x (Set option value) reply x' is enough (inl (f, refuses, h)) = answered (Refused f) reply (sets x.sharing option value f refuses) h.0
 happens x (Set option value) reply x' is enough (inr h) = answered Done reply refl h.2.0
 happens x Unmerge reply x' is enough (inl h) =
-    let have = have-unmerging x is enough in
+    let have = have-unmerging x is.kept enough in
     let less = h.0 in
     absurd (omega (arith, have, less))
 happens x Unmerge reply x' is enough (inr h) = answered Done reply refl h.1.0

@@ -3,6 +3,8 @@ pub mod Groups
 pub mod Pages
 pub mod Held
 pub mod Needs
+pub mod Shapes
 pub mod Systems
 pub mod Lacking
 pub mod Calls
+pub mod Runs

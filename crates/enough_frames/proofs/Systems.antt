@@ -1,22 +1,24 @@
 -- What a system has in frames, pages and reserves, where a host stands for it.
-use Rattle.std.proofs.Common.{◌≡◌, ◌∙◌, ◌⊎◌, inl, inr, ⊎_elim, ℕ, zero, suc, ◌+◌, ◌*◌, ◌<◌, ◌≤◌, true, List, [], ◌∷◌, ◌++◌, length, sum_by, All, Option, Some, None, IfSome, refl, sym, ap, subst, arith}
+use Rattle.std.proofs.Common.{◌≡◌, ◌∙◌, ◌⊎◌, inl, inr, ⊎_elim, ℕ, zero, suc, ◌+◌, ◌*◌, ◌≤◌, true, List, [], ◌∷◌, ◌++◌, length, Option, Some, None, IfSome, refl, sym, ap, subst, arith}
 use Rattle.std.specs.List.{slice_get, AllZip}
-use Rattle.std.proofs.lemmas.List.Elements.{All-head, All-tail}
 use Rattle.std.proofs.lemmas.List.Sums.{sum_by-cons, sum_by-append}
 use Rattle.host_types.specs.Memory.{FlatMaps, map_at}
-use Rattle.host_types.specs.Sharing.{Sharing, own_frame, frames_free}
+use Rattle.host_types.specs.Sharing.{Sharing, frames_free}
 use Rattle.host_types.specs.Tenant.{IsFlatMap}
-use Rattle.host_types.specs.Unmerging.{members, zero_pages, unmerge_need}
+use Rattle.host_types.specs.Unmerging.{members, unmerge_need}
+use Rattle.host_types.proofs.Unmerging.{AreListed}
 use Rattle.page_table.specs.Reads.{ReadsAs}
 use Rattle.admission.specs.Reserve.{needed_from}
 use Rattle.verifier.specs.Verified.{Accepted}
 use Rattle.verifier.specs.Writes.{writes_from}
 use Rattle.host_types.specs.Tenant.{TenantPart}
-use Rattle.host_core.specs.World.{OpenRun, Tenant, World, System, all_maps, accepted_of, pins_of, reserve_of, reserved_from, reserved_in, have_in}
+use Rattle.host_core.specs.World.{OpenRun, Tenant, World, System, all_maps, accepted_of, pins_of, reserve_of, reserved_from, have_in, IsTenant}
 use Rattle.host_core.specs.HostView.{TenantView, HostView, StandsForTenant, StandsForSystem}
 use Rattle.enough_frames.specs.Frames.{map_pages, pages_in, pages_of_all, AreEnough}
-use Rattle.enough_frames.proofs.Held.{pages-held}
+use Rattle.enough_frames.proofs.Groups.{are_listed, few-groups}
+use Rattle.enough_frames.proofs.Held.{in_groups, present, present-few, taken-present}
 use Rattle.enough_frames.proofs.Needs.{unpinned-in_maps}
+use Rattle.enough_frames.proofs.Shapes.{shapes_of}
 
 -- ---- the maps of all tenants
 
@@ -43,15 +45,12 @@ flat-all_maps (one ∷ kept) (tenant ∷ w) h k =
     (λ later. subst (λ slot. IfSome slot IsFlatMap) (sym later.1) (flat-all_maps kept w h.1 later.0))
     (at-append tenant.maps (all_maps w) k)
 
-flat-maps : (kept : List TenantView) (w : World) (t : ℕ) (tenant : Tenant) → AllZip StandsForTenant kept w → slice_get w t ≡ Some tenant
-    → (m : ℕ) → IfSome (map_at tenant.maps m) IsFlatMap
-flat-maps [] [] t tenant h e m = absurd (cc)
-flat-maps (one ∷ kept) [] t tenant h e m = absurd h
-flat-maps [] (other ∷ w) t tenant h e m = absurd h
-flat-maps (one ∷ kept) (other ∷ w) zero tenant h e m =
-    let same : other ≡ tenant = cc in
-    subst (λ (u : Tenant). IfSome (map_at u.maps m) IsFlatMap) same (h.0.fulfils.maps.each m)
-flat-maps (one ∷ kept) (other ∷ w) (suc t) tenant h e m = flat-maps kept w t tenant h.1 e m
+is-tenant : (kept : List TenantView) (w : World) (t : ℕ) (tenant : Tenant) → AllZip StandsForTenant kept w → slice_get w t ≡ Some tenant → IsTenant tenant
+is-tenant [] [] t tenant h e = absurd (cc)
+is-tenant (one ∷ kept) [] t tenant h e = absurd h
+is-tenant [] (other ∷ w) t tenant h e = absurd h
+is-tenant (one ∷ kept) (other ∷ w) zero tenant h e = let same : other ≡ tenant = cc in subst IsTenant same h.0.fulfils
+is-tenant (one ∷ kept) (other ∷ w) (suc t) tenant h e = is-tenant kept w t tenant h.1 e
 
 -- ---- what open runs may need
 
@@ -93,59 +92,63 @@ reserved-idle sharing n (other ∷ w) (suc t) tenant e idle =
 
 -- ---- all of it
 
-few-groups : (gs : List (List ℕ)) → All (λ group. 0 < length group) gs → length gs ≤ sum_by (λ (group : List ℕ). length group) gs
-few-groups [] h = omega arith
-few-groups (g ∷ gs) h =
-    let first : 0 < length g = All-head (λ (group : List ℕ). 0 < length group) g gs h in
-    let rest = few-groups gs (All-tail (λ (group : List ℕ). 0 < length group) g gs h) in
-    let split = sum_by-cons (λ (group : List ℕ). length group) g gs in
-    omega (arith, first, rest, split)
+-- an open run has maps of its tenant's shapes
+abbrev pub RunsHaveMaps : World → Type 0
+RunsHaveMaps w =
+    (t : ℕ) (tenant : Tenant) (r : OpenRun) → slice_get w t ≡ Some tenant → tenant.run ≡ Some r → shapes_of tenant.maps ≡ shapes_of r.state.memory.maps
 
-few-shared : (old s : Sharing) → old ≡ s → All (λ group. 0 < length group) old.groups → length s.groups ≤ members s
-unfolding members
-few-shared old s e h = few-groups s.groups (subst (λ (sharing : Sharing). All (λ group. 0 < length group) sharing.groups) e h)
+-- what runs keep: no page takes two frames, and there are no more pages than the maps have
+pub record Kept (x : System) : Type 0 where
+  pub listed : AreListed x.sharing
+  pub few : present x.sharing ≤ pages_of_all x.world
+  pub runs : RunsHaveMaps x.world
 
--- no page takes two frames, and no run may need more than its tenant's pages
+-- and all maps are of shapes within the limits
 pub record Balances (x : System) : Type 0 where
-  pub taken : members x.sharing + zero_pages x.sharing + sum_by own_frame x.sharing.pages ≤ pages_of_all x.world
-  pub groups : length x.sharing.groups ≤ members x.sharing
-  pub reserved : reserved_in x ≤ pages_of_all x.world
-  pub idle : (t : ℕ) (tenant : Tenant) → slice_get x.world t ≡ Some tenant → tenant.run ≡ None → reserved_in x + pages_in tenant.maps ≤ pages_of_all x.world
+  pub kept : Kept x
   pub flat : (t : ℕ) (tenant : Tenant) → slice_get x.world t ≡ Some tenant → (m : ℕ) → IfSome (map_at tenant.maps m) IsFlatMap
 
 pub balances : (view : HostView) (x : System) → ReadsAs view.memory → StandsForSystem view x → Balances x
 balances view x reads stands =
-    let kept = stands.memory in
+    let memory = stands.memory in
     record {
-      taken =
-          let flat = subst (λ (maps : FlatMaps). (k : ℕ) → IfSome (map_at maps k) IsFlatMap) (sym kept.maps) (flat-all_maps view.tenants x.world stands.tenants) in
-          let held = pages-held view.memory reads flat in
-          let maps = ap pages_in kept.maps ∙ pages-all_maps x.world in
-          let grouped = ap members kept.sharing in
-          let zeros = ap zero_pages kept.sharing in
-          let owns = ap (λ (s : Sharing). sum_by own_frame s.pages) kept.sharing in
-          omega (arith, held, maps, grouped, zeros, owns);
-      groups = few-shared view.memory.sharing x.sharing kept.sharing reads.groups.some;
-      reserved = reserved-few x.sharing 0 x.world;
-      idle = λ t tenant e none. reserved-idle x.sharing 0 x.world t tenant e none;
-      flat = λ t tenant e m. flat-maps view.tenants x.world t tenant stands.tenants e m;
+      kept = record {
+        listed = subst AreListed memory.sharing (are_listed view.memory.sharing (in_groups view.memory reads));
+        few =
+            let flat = subst (λ (maps : FlatMaps). (k : ℕ) → IfSome (map_at maps k) IsFlatMap) (sym memory.maps) (flat-all_maps view.tenants x.world stands.tenants) in
+            let held = present-few view.memory reads flat in
+            let maps = ap pages_in memory.maps ∙ pages-all_maps x.world in
+            let same = ap present memory.sharing in
+            omega (arith, held, maps, same);
+        runs = λ t tenant r there open_run.
+            let is = is-tenant view.tenants x.world t tenant stands.tenants there in
+            ap shapes_of (subst (λ (run : Option OpenRun). IfSome run (λ r. tenant.maps ≡ r.state.memory.maps)) open_run is.same);
+      };
+      flat = λ t tenant there m. (is-tenant view.tenants x.world t tenant stands.tenants there).maps.each m;
     }
 
+-- as many groups as there are take frames, and no more than their pages
+groups-few : (s : Sharing) → AreListed s → length s.groups ≤ members s
+unfolding members
+groups-few s are = few-groups s.groups are.some
+
 -- what may be had for a tenant without an open run
-pub have-idle : (x : System) (made t : ℕ) (tenant : Tenant) → Balances x → slice_get x.world t ≡ Some tenant → tenant.run ≡ None → AreEnough x made
+pub have-idle : (x : System) (made t : ℕ) (tenant : Tenant) → Kept x → slice_get x.world t ≡ Some tenant → tenant.run ≡ None → AreEnough x made
     → pages_in tenant.maps + made * 2 + 1 ≤ have_in x
 unfolding frames_free
-have-idle x made t tenant is e none enough =
-    let taken = is.taken in
-    let groups = is.groups in
-    let idle = is.idle t tenant e none in
-    omega (arith, taken, groups, idle, enough)
+have-idle x made t tenant is there none enough =
+    let taken = taken-present x.sharing is.listed in
+    let few = is.few in
+    let groups = groups-few x.sharing is.listed in
+    let idle = reserved-idle x.sharing 0 x.world t tenant there none in
+    omega (arith, taken, few, groups, idle, enough)
 
 -- what may be had to unmerge all pages
-pub have-unmerging : (x : System) → Balances x → AreEnough x 0 → unmerge_need x.sharing ≤ have_in x
+pub have-unmerging : (x : System) → Kept x → AreEnough x 0 → unmerge_need x.sharing ≤ have_in x
 unfolding frames_free unmerge_need
 have-unmerging x is enough =
-    let taken = is.taken in
-    let groups = is.groups in
-    let reserved = is.reserved in
-    omega (arith, taken, groups, reserved, enough)
+    let taken = taken-present x.sharing is.listed in
+    let few = is.few in
+    let groups = groups-few x.sharing is.listed in
+    let reserved = reserved-few x.sharing 0 x.world in
+    omega (arith, taken, few, groups, reserved, enough)

@@ -1,4 +1,4 @@
-ghost use Rattle.enough_frames.specs.Laws.{NextHasFrames};
+ghost use Rattle.enough_frames.specs.Laws.{NextHasFrames, ManyHaveFrames};
 
 use host_core::Host;
 
@@ -6,7 +6,8 @@ use host_core::Host;
 /// of frames: whatever happened before, whichever pages share frames, and whichever runs are open. One of the two is the frame of zeros, and the
 /// other one lets an update write a value that lies on two pages. This is a law about hosts: the function does nothing.
 pub fn calls_have_frames(host: &Host)
-    ensures { NextHasFrames host.now }
+    ensures next { NextHasFrames host.now }
+    ensures many { ManyHaveFrames host.now }
 {
     host.facts();
 }
