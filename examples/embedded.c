@@ -3,15 +3,16 @@
  *     clang -g -O2 -target bpf -c examples/caps.c -o caps.o
  *     cc examples/embedded.c -Iinclude $(tools/static_library) -o embedded && ./embedded caps.o
  *
- * It prints 200, since a client's first request passes, and what its map has of it. Of a file that is refused it prints why, with the line of C. */
+ * It prints 200, since a client's first request passes, and what its map has of it: with three files that have the same maps, 200, 200 and 429, as
+ * the count goes on. Of a file that is refused it prints why, with the line of C. */
 #include "bpf_host.h"
 #include <stdio.h>
 #include <stdlib.h>
 #include <string.h>
 
-/* An upload, of which at most so many bytes are read, and its program. They are static since they are large. */
+/* An upload, of which at most so many bytes are read, its program, and that which runs. They are static since they are large. */
 static uint8_t file[1 << 20];
-static struct bpf_host_object object;
+static struct bpf_host_object object, running;
 static struct bpf_host_refused refused;
 
 /* A `struct request` of client 7. */
@@ -48,27 +49,42 @@ static size_t receive(const char *path)
     return size;
 }
 
-/* Frees a tenant's program and its maps. */
-static void unload(struct bpf_host *host, uint32_t tenant, uint32_t program)
+/* Loads what was read beside the program that runs, for the same maps, so that their values stay. */
+static uint32_t load_beside(struct bpf_host *host, uint32_t tenant, uint32_t *program)
 {
-    bpf_host_unload(host, tenant, program);
-    for (uint32_t map = 0; map < 8; map++)
-        bpf_host_drop_map(host, tenant, map);
+    uint32_t next = 0;
+    uint32_t code = bpf_host_load(host, tenant, object.text, object.text_len, object.context_size, &next, &refused);
+    if (code != 0)
+        return code;
+    bpf_host_unload(host, tenant, *program);
+    *program = next;
+    return 0;
 }
 
-/* Loads an upload for the spare tenant, and unloads the other one's program, which stays where the upload is refused. */
+/* Loads what was read for the spare tenant, with maps of its own, and frees the other one's program and maps. */
+static uint32_t load_apart(struct bpf_host *host, uint32_t *tenant, uint32_t *program)
+{
+    uint32_t spare = 1 - *tenant, next = 0;
+    uint32_t code = bpf_host_load_object(host, spare, &object, false, &next, &refused);
+    if (code != 0)
+        return code;
+    bpf_host_unload(host, *tenant, *program);
+    for (uint32_t map = 0; map < 8; map++)
+        bpf_host_drop_map(host, *tenant, map);
+    *tenant = spare, *program = next;
+    return 0;
+}
+
+/* Puts an upload in place of the program that runs, which stays where the upload is refused. */
 static void replace(struct bpf_host *host, size_t size, uint32_t *tenant, uint32_t *program)
 {
-    uint32_t spare = 1 - *tenant, next;
     uint32_t code = bpf_host_read_object(file, size, "admit", strlen("admit"), 8, &object, &refused);
     if (code == 0)
-        code = bpf_host_load_object(host, spare, &object, false, &next, &refused);
-    if (code != 0) {
+        code = bpf_host_same_maps(&object, &running) ? load_beside(host, *tenant, program) : load_apart(host, tenant, program);
+    if (code == 0)
+        running = object;
+    else
         print_refusal(code);
-        return;
-    }
-    unload(host, *tenant, *program);
-    *tenant = spare, *program = next;
 }
 
 int main(int argc, char **argv)
@@ -86,6 +102,7 @@ int main(int argc, char **argv)
         code = bpf_host_load_object(&host, tenant, &object, false, &program, &refused);
     if (code != 0)
         return reject(code);                                        /* object.why says why, with the line of C */
+    running = object;
     for (int upload = 2;; upload++) {
         code = bpf_host_run(&host, tenant, program, request, 8, &run, &refused); /* for each request */
         uint64_t status = code == 0 ? run.ret : 503;                    /* a refused run didn't start */

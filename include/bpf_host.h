@@ -50,6 +50,7 @@
 #include <stdbool.h>
 #include <stddef.h>
 #include <stdint.h>
+#include <string.h>
 
 #ifdef __cplusplus
 extern "C" {
@@ -284,6 +285,19 @@ uint32_t bpf_host_read_object(const uint8_t *file, size_t file_len, const char *
  * bpf_host_load refuse. */
 uint32_t bpf_host_load_object(struct bpf_host *host, uint32_t tenant, const struct bpf_host_object *object, bool mergeable, uint32_t *program,
                               struct bpf_host_refused *refused);
+
+/* Whether two objects that were read have the same maps by number: names, shapes and initial values. Then bpf_host_load loads the text of one beside
+ * the program of the other, for the maps that bpf_host_load_object made: their values stay, and bpf_host_unload removes the older program. */
+static inline bool bpf_host_same_maps(const struct bpf_host_object *one, const struct bpf_host_object *other)
+{
+    bool same = one->maps_len == other->maps_len;
+    for (uint32_t number = 0; same && number < one->maps_len; number++) {
+        const struct bpf_host_object_map *a = &one->maps[number], *b = &other->maps[number];
+        same = memcmp(a->name, b->name, sizeof a->name) == 0 && a->shape.value_size == b->shape.value_size && a->shape.entries == b->shape.entries &&
+               a->first_len == b->first_len && memcmp(a->first, b->first, a->first_len) == 0;
+    }
+    return same;
+}
 
 /* The name of what a call returned. */
 static inline const char *bpf_host_code_name(uint32_t code)

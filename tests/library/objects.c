@@ -155,8 +155,58 @@ static void test_refused_objects(void)
     bpf_host_free(&host);
 }
 
+/* An object takes another one's place on its maps where names, shapes and initial values are the same, whatever follows an initial value. */
+static void test_same_maps(void)
+{
+    static struct bpf_host_object other;
+    CHECK(read_object(read_file("crates/bpf_object/data/globals.o"), "", 0), 0);
+    other = object;
+    other.text_len = 0;
+    memset(other.maps[0].first + other.maps[0].first_len, 0xee, 9);
+    CHECK(bpf_host_same_maps(&object, &other), true);
+    other.maps[2].name[63]++;
+    CHECK(bpf_host_same_maps(&object, &other), false);
+    other.maps[2] = object.maps[2];
+    other.maps[2].shape.value_size++;
+    CHECK(bpf_host_same_maps(&object, &other), false);
+    other.maps[2] = object.maps[2];
+    other.maps[2].shape.entries++;
+    CHECK(bpf_host_same_maps(&object, &other), false);
+    other.maps[2] = object.maps[2];
+    other.maps[1].first[other.maps[1].first_len - 1]++;
+    CHECK(bpf_host_same_maps(&object, &other), false);
+    other.maps[1] = object.maps[1];
+    other.maps[1].first_len--;
+    CHECK(bpf_host_same_maps(&object, &other), false);
+    other.maps[1] = object.maps[1];
+    other.maps_len--;
+    CHECK(bpf_host_same_maps(&object, &other), false);
+    CHECK(bpf_host_same_maps(&other, &object), false);
+}
+
+/* A program that is loaded beside another one, on its maps, goes on with their values when that one is unloaded. */
+static void test_replaced_program(void)
+{
+    struct bpf_host host = {0};
+    struct bpf_host_refused refused = {0, 0, 0};
+    uint8_t kept[4] = {9, 8, 7, 6}, value[4] = {0};
+    uint32_t first = 99, next = 99;
+    open_host(&host, 8, 1);
+    CHECK(read_object(read_file("crates/bpf_object/data/globals.o"), "", 0), 0);
+    CHECK(bpf_host_load_object(&host, 0, &object, true, &first, &refused), 0);
+    CHECK(bpf_host_update(&host, 0, 2, 0, kept, object.maps[2].shape.value_size, &refused), 0);
+    CHECK(bpf_host_load(&host, 0, object.text, object.text_len, object.context_size, &next, &refused), 0);
+    CHECK(bpf_host_unload(&host, 0, first), 0);
+    CHECK(next != first, true);
+    CHECK(bpf_host_lookup(&host, 0, 2, 0, value, object.maps[2].shape.value_size), 0);
+    CHECK(memcmp(value, kept, sizeof kept), 0);
+    bpf_host_free(&host);
+}
+
 void test_objects(void)
 {
+    test_same_maps();
+    test_replaced_program();
     test_refused_files();
     test_loaded_objects();
     test_merged_objects();

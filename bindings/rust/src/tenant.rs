@@ -123,7 +123,7 @@ impl<'h> Tenant<'h> {
 impl<'h> Tenant<'h> {
     /// Makes the maps of an object file and loads its program, for a tenant that has no map, since the text names maps by number. Where that is
     /// refused, the maps are dropped, but for one that a loaded program of the tenant names. `map` finds the maps afterwards; `load` loads further
-    /// programs of the same file.
+    /// programs of the same file, and of a new version whose `maps` are equal: it goes on with their values when the older one is unloaded.
     pub fn load_object(&self, object: &Object, mergeable: bool) -> Result<Program<'h>, Refused> {
         if (0..8).any(|number| self.map(number).is_ok()) {
             return Err(Refused::has_maps());

@@ -277,6 +277,19 @@ fn an_object_file_is_loaded_with_its_maps() {
 }
 
 #[test]
+fn a_program_is_replaced_on_its_maps() {
+    let object = Object::read(&file("globals.o"), "", 0).unwrap();
+    let host = host(8, 1);
+    let first = host.tenant(0).load_object(&object, true).unwrap();
+    let steps = first.run(&[]).unwrap().steps;
+    let value = host.tenant(0).map(0).unwrap().get(0).unwrap();
+    let next = host.tenant(0).load(&object.text, object.context_size);
+    first.unload().map_err(|(_, refused)| refused).unwrap();
+    assert_eq!(host.tenant(0).map(0).unwrap().get(0), Ok(value));
+    assert_eq!(next.unwrap().run(&[]).unwrap().steps, steps);
+}
+
+#[test]
 fn a_refused_object_leaves_no_map_and_says_why() {
     let object = Object::read(&file("globals.o"), "", 0).unwrap();
     let small = host(3, 1);
