@@ -25,6 +25,7 @@ use Rattle.host_core.specs.World.{OpenRun, Tenant, System, accepted_of, owned_by
 use Rattle.host_core.specs.Happens.{Answers, RefusedOr, OfTenant, Happens, AllHappen, StepsHappen, StepLeads, StepHappens, CreateHappens, LoadHappens, BeginHappens, UpdateHappens, LookupHappens, UnloadHappens, DropHappens, unless_busy, create_refusal, load_refusal, begin_refusal, host_update_refusal, unload_refusal, drop_refusal}
 use Rattle.host_calls.specs.Programs.{subject_of}
 use Rattle.enough_frames.specs.Frames.{map_pages, pages_in, pages_made, AreEnough, lacks_frames}
+use Rattle.enough_frames.proofs.Cases.{of_tenant as any_tenant, refused_or as any_refusal}
 use Rattle.enough_frames.proofs.Systems.{Kept, Balances, need-few, have-idle, have-unmerging}
 
 -- the reply is no refusal for lack of frames
@@ -56,16 +57,12 @@ no_run (Some r) e = absurd (cc)
 
 of_tenant : (x : System) (t : ℕ) (reply : Reply) (x' : System) (Happening : Tenant → Type 0)
     → ((tenant : Tenant) → slice_get x.world t ≡ Some tenant → Happening tenant → Has reply) → OfTenant x t reply x' Happening → Has reply
-of_tenant x t reply x' Happening happens h = by_tenant (slice_get x.world t) refl h
-  where
-    by_tenant : (found : Option Tenant) → slice_get x.world t ≡ found → MatchOption found (Answers x (Refused fault.BadTenant) reply x') Happening → Has reply
-    by_tenant None e h = answered (Refused fault.BadTenant) reply refl h.0
-    by_tenant (Some tenant) e h = happens tenant e h
+of_tenant x t reply x' Happening happens h = any_tenant (Has reply) x t reply x' Happening (λ k. answered (Refused fault.BadTenant) reply refl k.0) happens h
 
 refused_or : (refusal : Option Fault) (x : System) (reply : Reply) (x' : System) (Happening : Type 0) → ((f : Fault) → refusal ≡ Some f → Has (Refused f))
     → (refusal ≡ None → Happening → Has reply) → RefusedOr refusal x reply x' Happening → Has reply
-refused_or (Some f) x reply x' Happening refused happens h = answered (Refused f) reply (refused f refl) h.0
-refused_or None x reply x' Happening refused happens h = happens refl h
+refused_or refusal x reply x' Happening refused happens h =
+    any_refusal (Has reply) refusal x reply x' Happening (λ f e k. answered (Refused f) reply (refused f e) k.0) happens h
 
 unless_run : (tenant : Tenant) (refusal : Option Fault) → (tenant.run ≡ None → (f : Fault) → refusal ≡ Some f → Has (Refused f))
     → (f : Fault) → unless_busy tenant refusal ≡ Some f → Has (Refused f)

@@ -5,6 +5,7 @@ pub mod Held
 pub mod Needs
 pub mod Shapes
 pub mod Systems
+pub mod Cases
 pub mod Lacking
 pub mod Calls
 pub mod Runs

@@ -5,7 +5,6 @@ use Rattle.std.proofs.lemmas.List.Sums.{sum_by-cons}
 use Rattle.std.proofs.lemmas.Bool.Decides.{eqb_tells}
 use Rattle.host_types.specs.declared.event.Event.{Event}
 use Rattle.host_types.specs.declared.event.Event.TheVariants.{Begin, Step}
-use Rattle.host_types.specs.declared.fault.Fault.{Fault}
 use Rattle.host_types.specs.declared.fault.Fault.TheVariants as fault
 use Rattle.host_types.specs.Pins.{broken_for_run, broken_for_run_from, pinned, released}
 use Rattle.host_types.specs.Sharing.{Sharing, PageState, state_at, is_shared_page, broken, broken_page, left_by}
@@ -17,10 +16,11 @@ use Rattle.interp.specs.Written.{Written, written}
 use Rattle.host_core.specs.declared.reply.Reply.{Reply}
 use Rattle.host_core.specs.declared.reply.Reply.TheVariants.{Begun, Stepped, Ended, Refused}
 use Rattle.host_core.specs.World.{OpenRun, Tenant, World, System, begun_run}
-use Rattle.host_core.specs.Happens.{Answers, RefusedOr, OfTenant, Happens, AllHappen, StepsHappen, RunHappens, StepLeads, StepHappens, BeginHappens, begin_refusal, changed_system, sharing_after}
+use Rattle.host_core.specs.Happens.{Answers, Happens, AllHappen, StepsHappen, RunHappens, StepLeads, StepHappens, BeginHappens, begin_refusal, changed_system, sharing_after}
 use Rattle.host_core.specs.Many.{context_at, RunsFirst, RunsMany}
 use Rattle.host_core.proofs.Worlds.{slice_get-set, slice_get-set-other}
 use Rattle.enough_frames.specs.Frames.{pages_in, pages_of_all, AreEnough}
+use Rattle.enough_frames.proofs.Cases.{of_tenant, refused_or}
 use Rattle.enough_frames.proofs.Held.{present}
 use Rattle.enough_frames.proofs.Lacking.{Has, begun, made_steps}
 use Rattle.enough_frames.proofs.Shapes.{shapes_of, step-shapes, pages-shapes}
@@ -141,19 +141,6 @@ changes x t tenant next sharing is there shapes runs keeps =
 
 -- ---- the events of a run
 
-of_tenant : (x : System) (t : ℕ) (reply : Reply) (x' : System) (Happening : Tenant → Type 0) → Kept x
-    → ((tenant : Tenant) → slice_get x.world t ≡ Some tenant → Happening tenant → Follows x x') → OfTenant x t reply x' Happening → Follows x x'
-of_tenant x t reply x' Happening is happens h = by_tenant (slice_get x.world t) refl h
-  where
-    by_tenant : (found : Option Tenant) → slice_get x.world t ≡ found → MatchOption found (Answers x (Refused fault.BadTenant) reply x') Happening → Follows x x'
-    by_tenant None e h = stays x x' is h.1
-    by_tenant (Some tenant) e h = happens tenant e h
-
-refused_or : (refusal : Option Fault) (x : System) (reply : Reply) (x' : System) (Happening : Type 0) → Kept x
-    → (Happening → Follows x x') → RefusedOr refusal x reply x' Happening → Follows x x'
-refused_or (Some f) x reply x' Happening is happens h = stays x x' is h.1
-refused_or None x reply x' Happening is happens h = happens h
-
 begins : (x : System) (t : ℕ) (tenant : Tenant) (k : ℕ) (context : List ℕ) (reply : Reply) (x' : System) → Kept x → slice_get x.world t ≡ Some tenant
     → BeginHappens x t tenant k context reply x' → Follows x x'
 begins x t tenant k context reply x' is there (p, at, inl h) = stays x x' is h.1.1
@@ -164,8 +151,9 @@ begins x t tenant k context reply x' is there (p, at, inr (has, inr h)) =
     (λ r e. let same : begun_run p context tenant.maps ≡ r = cc in ap (λ (q : OpenRun). shapes_of q.state.memory.maps) same) (λ are. (are, refl)))
 
 begin-follows : (x : System) (t k : ℕ) (context : List ℕ) (reply : Reply) (x' : System) → Kept x → Happens x (Begin t k context) reply x' → Follows x x'
-begin-follows x t k context reply x' is h = of_tenant x t reply x' _ is (λ tenant there k'.
-    refused_or (begin_refusal tenant k context) x reply x' (BeginHappens x t tenant k context reply x') is (begins x t tenant k context reply x' is there) k') h
+begin-follows x t k context reply x' is h = of_tenant (Follows x x') x t reply x' _ (λ k'. stays x x' is k'.1) (λ tenant there k'.
+    refused_or (Follows x x') (begin_refusal tenant k context) x reply x' (BeginHappens x t tenant k context reply x') (λ _ _ k''. stays x x' is k''.1)
+    (λ _. begins x t tenant k context reply x' is there) k') h
 
 leads : (x : System) (t : ℕ) (tenant : Tenant) (r : OpenRun) (sharing : Sharing) (outcome : Outcome) (reply : Reply) (x' : System) → Kept x
     → slice_get x.world t ≡ Some tenant → tenant.run ≡ Some r → step r.program.text r.state ≡ Some outcome → Keeps x.sharing sharing
@@ -185,7 +173,8 @@ leads x t tenant r sharing (Exits number maps) reply x' is there some made keeps
 
 step-follows : (x : System) (t : ℕ) (reply : Reply) (x' : System) → Kept x → Happens x (Step t) reply x' → Follows x x'
 step-follows x t reply x' is h =
-    of_tenant x t reply x' (λ (tenant : Tenant). MatchOption tenant.run (Answers x (Refused fault.NoRun) reply x') (λ r. StepHappens x t tenant r reply x')) is
+    of_tenant (Follows x x') x t reply x'
+    (λ (tenant : Tenant). MatchOption tenant.run (Answers x (Refused fault.NoRun) reply x') (λ r. StepHappens x t tenant r reply x')) (λ k. stays x x' is k.1)
     (λ tenant there k. by_run tenant there tenant.run refl k) h
   where
     by_run : (tenant : Tenant) → slice_get x.world t ≡ Some tenant → (run : Option OpenRun) → tenant.run ≡ run

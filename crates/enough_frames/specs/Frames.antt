@@ -1,4 +1,4 @@
--- Enough frames: twice as many as the maps have pages, and two.
+-- Enough frames: twice as many as the maps have pages, and two (docs/GUIDE.md, "How many frames": a rule of this project).
 use Rattle.std.specs.Prelude.{ℕ, ◌+◌, ◌*◌, ◌≤◌, sum_by, Bool, true, false, Option, option_map, unwrap_or}
 use Rattle.host_types.specs.declared.event.Event.{Event}
 use Rattle.host_types.specs.declared.event.Event.TheVariants.{CreateMap}
