@@ -44,7 +44,10 @@ struct Numbers {
 
 /// The number that a word is, else 0.
 fn number(word: Option<&str>) -> u32 {
-    word.unwrap_or("").parse().unwrap_or(0)
+    match word.unwrap_or("").parse() {
+        Ok(number) => number,
+        Err(_) => 0,
+    }
 }
 
 /// Stores a value into the first eight bytes of a tenant's first map, where they and the frames are there.

@@ -26,12 +26,11 @@ fn map(alloc: Global, both: &mut Both, draws: &mut Draws, pages: u32) -> Result<
 {
     let tenant = draws.below(TENANTS + 1);
     let mergeable = draws.below(8) > 0;
-    if draws.below(4) == 0 {
-        both.create_map(alloc, tenant, 8, 1, mergeable)
-    } else {
-        let entries = draws.below(pages) + 1;
-        both.create_map(alloc, tenant, 4096, entries, mergeable)
-    }
+    let (value_size, entries) = match draws.below(4) {
+        0 => (8, 1),
+        _ => (4096, draws.below(pages) + 1),
+    };
+    both.create_map(alloc, tenant, value_size, entries, mergeable)
 }
 
 /// Draws a map, which may not be there, and drops it.
