@@ -10,7 +10,7 @@
 #include <stdlib.h>
 #include <string.h>
 
-/* An upload, of which at most so many bytes are read, its program, and that which runs. They are static since they are large. */
+/* The bytes of an upload, its program, and the program that runs: static, since they are large. */
 static uint8_t file[1 << 20];
 static struct bpf_host_object object, running;
 static struct bpf_host_refused refused;
@@ -75,7 +75,7 @@ static uint32_t load_apart(struct bpf_host *host, uint32_t *tenant, uint32_t *pr
     return 0;
 }
 
-/* Puts an upload in place of the program that runs, which stays where the upload is refused. */
+/* Replaces the program that runs by an upload; if that is refused, it stays. */
 static void replace(struct bpf_host *host, size_t size, uint32_t *tenant, uint32_t *program)
 {
     uint32_t code = bpf_host_read_object(file, size, "admit", strlen("admit"), 8, &object, &refused);
@@ -92,16 +92,16 @@ int main(int argc, char **argv)
     size_t size = argc > 1 ? receive(argv[1]) : 0;
     struct bpf_host host = {0};
     struct bpf_host_options options = BPF_HOST_OPTIONS;
-    struct bpf_host_run run;
-    uint32_t code, tenant = 0, program;
-    uint8_t window[8];
+    struct bpf_host_run run = {0, 0};
+    uint32_t code, tenant = 0, program = 0;
+    uint8_t window[8] = {0};
     must(bpf_host_new(32, 2, &options, &host));                     /* 32 pages of 4 KiB; tenants 0 and 1 */
-    /* For each upload: reading verifies (inputs have 8 bytes), and loading makes its maps. */
+    /* Reading verifies (inputs have 8 bytes), loading makes the maps. */
     code = bpf_host_read_object(file, size, "admit", strlen("admit"), 8, &object, &refused);
     if (code == 0)
         code = bpf_host_load_object(&host, tenant, &object, false, &program, &refused);
     if (code != 0)
-        return reject(code);                                        /* object.why says why, with the line of C */
+        return reject(code);                                        /* a file's fault: object.why */
     running = object;
     for (int upload = 2;; upload++) {
         code = bpf_host_run(&host, tenant, program, request, 8, &run, &refused); /* for each request */

@@ -1,18 +1,19 @@
 /* An embeddable host of eBPF programs: 1 to 16 tenants, each with its own maps, its own verified programs and at most one open
- * run, in a memory whose pages are merged. No reply and no value reveals this: each call does what docs/HOST.md says of its event.
+ * run, in a memory whose pages are merged: no run and no value reveals this, but NO_FRAMES and the counters depend on it. Each call does what
+ * docs/HOST.md says of its event.
  *
  *     struct bpf_host host = {0};
  *     struct bpf_host_options options = BPF_HOST_OPTIONS;
- *     struct bpf_host_run run;
- *     struct bpf_host_refused why;
- *     uint32_t program;
+ *     struct bpf_host_run run = {0, 0};
+ *     struct bpf_host_refused why = {0, 0, 0};
+ *     uint32_t program = 0;
  *     if (bpf_host_new(64, 1, &options, &host)) ..
  *     if (bpf_host_load(&host, 0, text, sizeof text, 0, &program, &why)) ..
  *     if (bpf_host_run(&host, 0, program, context, 0, &run, &why)) ..
  *     bpf_host_free(&host);
  *
  * WHAT A CALL RETURNS. BPF_HOST_DONE, which is 0, or a refusal; bpf_host_code_name returns its name. Each call lists its refusals without BPF_HOST_,
- * in the order in which they are tested; docs/HOST.md says when each is returned.
+ * in the order in which they are tested; docs/HOST.md says when 31 to 45 are returned.
  *     a rule           1 to 25: the program breaks this rule of the verifier, at the slot `refused->slot`
  *     NO_FRAMES        more frames are needed than are available: `refused->need` and `refused->have`. Not where the host has two frames for
  *                      each page of its maps, also of one that is to be made, and two more
@@ -67,7 +68,7 @@ struct bpf_host {
 
 /* The options of the scanner, by the names of Linux's KSM. */
 struct bpf_host_options {
-    uint32_t pages_to_scan;    /* 1 to 100000 */
+    uint32_t pages_to_scan;    /* 1 to 100000; bpf_host_visit takes its own number */
     uint32_t run;              /* 0: the scanner is stopped; 1: it visits */
     uint32_t use_zero_pages;   /* 1: pages of zeros share one frame */
     uint32_t max_page_sharing; /* how many pages may share a frame, 2 to 65535 */
@@ -190,7 +191,8 @@ uint32_t bpf_host_new(uint32_t frames, uint32_t tenants, const struct bpf_host_o
 /* Closes a handle and frees all that its host held. A closed handle stays closed. */
 void bpf_host_free(struct bpf_host *host);
 
-/* Makes a map of `entries` values of `value_size` bytes, all zero, and writes its number to `*map`: 0 to 7. Refused: CLOSED, BAD_TENANT, BUSY,
+/* Makes a map of `entries` values of `value_size` bytes, all zero, and writes its number to `*map`: 0 to 7. If it is `mergeable`, visits let its
+ * pages share frames with equal pages of mergeable maps, of other tenants too. Refused: CLOSED, BAD_TENANT, BUSY,
  * TOO_MANY_MAPS, BAD_SHAPE, NO_FRAMES. */
 uint32_t bpf_host_create_map(struct bpf_host *host, uint32_t tenant, uint32_t value_size, uint32_t entries, bool mergeable, uint32_t *map,
                              struct bpf_host_refused *refused);
@@ -236,7 +238,8 @@ uint32_t bpf_host_lookup(struct bpf_host *host, uint32_t tenant, uint32_t map, u
 uint32_t bpf_host_update(struct bpf_host *host, uint32_t tenant, uint32_t map, uint32_t key, const uint8_t *value, size_t value_len,
                          struct bpf_host_refused *refused);
 
-/* Lets the scanner make `visits` visits, of one page each, and then writes the counters. Refused: CLOSED. */
+/* Lets the scanner make `visits` visits, of one page each, and then writes the counters. Pages share frames by visits alone, so call it from time to
+ * time if maps are mergeable. Refused: CLOSED. */
 uint32_t bpf_host_visit(struct bpf_host *host, uint32_t visits, struct bpf_host_counters *after);
 
 /* Sets an option. Refused: CLOSED, BAD_OPTION, PAGES_SHARED. */
@@ -280,8 +283,8 @@ uint32_t bpf_host_read_object(const uint8_t *file, size_t file_len, const char *
 
 /* Makes the maps of an object that was read, by number and with their initial values, and loads its program, for a tenant that has no map, since a
  * text refers to maps by number. bpf_host_load loads a further program of the same file, from the text that is read under its name: its maps
- * have the same numbers. If making a map or loading the program is refused, the tenant's maps are dropped, except one that a loaded program of the
- * tenant refers to. Refused: CLOSED, WRONG_LENGTH if a length exceeds its array, HAS_MAPS, and what bpf_host_create_map, bpf_host_update and
+ * have the same numbers. If making a map or loading the program is refused, the tenant's maps are dropped, except one to which
+ * an older program refers, even in an instruction that is never reached. Refused: CLOSED, WRONG_LENGTH if a length exceeds its array, HAS_MAPS, and what bpf_host_create_map, bpf_host_update and
  * bpf_host_load refuse. */
 uint32_t bpf_host_load_object(struct bpf_host *host, uint32_t tenant, const struct bpf_host_object *object, bool mergeable, uint32_t *program,
                               struct bpf_host_refused *refused);
