@@ -189,16 +189,18 @@ static void test_replaced_program(void)
 {
     struct bpf_host host = {0};
     struct bpf_host_refused refused = {0, 0, 0};
-    uint8_t kept[4] = {9, 8, 7, 6}, value[4] = {0};
+    static const uint8_t kept[8] = {9, 8, 7, 6, 5, 4, 3, 2};
+    uint8_t value[8] = {0};
     uint32_t first = 99, next = 99;
     open_host(&host, 8, 1);
     CHECK(read_object(read_file("crates/bpf_object/data/globals.o"), "", 0), 0);
     CHECK(bpf_host_load_object(&host, 0, &object, true, &first, &refused), 0);
-    CHECK(bpf_host_update(&host, 0, 2, 0, kept, object.maps[2].shape.value_size, &refused), 0);
+    CHECK(object.maps[0].shape.value_size, sizeof kept);
+    CHECK(bpf_host_update(&host, 0, 0, 0, kept, sizeof kept, &refused), 0);
     CHECK(bpf_host_load(&host, 0, object.text, object.text_len, object.context_size, &next, &refused), 0);
     CHECK(bpf_host_unload(&host, 0, first), 0);
     CHECK(next != first, true);
-    CHECK(bpf_host_lookup(&host, 0, 2, 0, value, object.maps[2].shape.value_size), 0);
+    CHECK(bpf_host_lookup(&host, 0, 0, 0, value, sizeof value), 0);
     CHECK(memcmp(value, kept, sizeof kept), 0);
     bpf_host_free(&host);
 }
