@@ -32,6 +32,12 @@
  * `*refused` that the number concerns (slot; need and have), `*written` if a buffer is too short, `object->why`, what bpf_host_run_many
  * did before the refusal, and the maps that bpf_host_load_object made and dropped.
  *
+ * A refused call may be repeated: after NO_FRAMES when runs have ended or visits have merged pages, after OUT_OF_MEMORY when there is memory.
+ *
+ * LIMITS. A host has 2 to 4096 frames of 4096 bytes and 1 to 16 tenants; a tenant at most 8 maps, 8 loaded programs and one open run. A map has 1 to
+ * 65536 values of 1 to 4096 bytes, on at most 256 pages (1 MiB): a value takes a multiple of 8 bytes there. A program has 1 to 4096 slots of 8 bytes
+ * and makes at most 4096 steps a run. A context has 0 to 256 bytes, a multiple of 8. An object file has at most 16 MiB.
+ *
  * WHAT THE CALLER MUST ENSURE AT EACH CALL. No proof covers it.
  *   - No pointer is null, and each points to an initialized object of its type: a `struct bpf_host` starts as all zeros, and a `bool` is
  *     true or false. An empty buffer needs a pointer that isn't null, too.
