@@ -101,7 +101,7 @@ int main(int argc, char **argv)
     if (code == 0)
         code = bpf_host_load_object(&host, tenant, &object, false, &program, &refused);
     if (code != 0)
-        return reject(code);                                        /* a file's fault: object.why */
+        return reject(code);                                        /* bad file? see object.why */
     running = object;
     for (int upload = 2;; upload++) {
         code = bpf_host_run(&host, tenant, program, request, 8, &run, &refused); /* for each request */
