@@ -49,18 +49,6 @@ static size_t receive(const char *path)
     return size;
 }
 
-/* Loads what was read beside the program that runs, for the same maps, so that their values stay. */
-static uint32_t load_beside(struct bpf_host *host, uint32_t tenant, uint32_t *program)
-{
-    uint32_t next = 0;
-    uint32_t code = bpf_host_load(host, tenant, object.text, object.text_len, object.context_size, &next, &refused);
-    if (code != 0)
-        return code;
-    bpf_host_unload(host, tenant, *program);
-    *program = next;
-    return 0;
-}
-
 /* Loads what was read for the spare tenant, with maps of its own, and frees the other one's program and maps. */
 static uint32_t load_apart(struct bpf_host *host, uint32_t *tenant, uint32_t *program)
 {
@@ -75,12 +63,14 @@ static uint32_t load_apart(struct bpf_host *host, uint32_t *tenant, uint32_t *pr
     return 0;
 }
 
-/* Replaces the program that runs by an upload; if that is refused, it stays. */
+/* Replaces the program that runs by an upload, whose maps keep their values if they are the same; if that is refused, it stays. */
 static void replace(struct bpf_host *host, size_t size, uint32_t *tenant, uint32_t *program)
 {
     uint32_t code = bpf_host_read_object(file, size, "admit", strlen("admit"), 8, &object, &refused);
-    if (code == 0)
-        code = bpf_host_same_maps(&object, &running) ? load_beside(host, *tenant, program) : load_apart(host, tenant, program);
+    if (code == 0 && bpf_host_same_maps(&object, &running))
+        code = bpf_host_replace(host, *tenant, &object, program, &refused);
+    else if (code == 0)
+        code = load_apart(host, tenant, program);
     if (code == 0)
         running = object;
     else

@@ -295,8 +295,8 @@ uint32_t bpf_host_read_object(const uint8_t *file, size_t file_len, const char *
 uint32_t bpf_host_load_object(struct bpf_host *host, uint32_t tenant, const struct bpf_host_object *object, bool mergeable, uint32_t *program,
                               struct bpf_host_refused *refused);
 
-/* Whether two objects that were read have the same maps by number: names, shapes and initial values. Then bpf_host_load loads the text of one beside
- * the program of the other, for the maps that bpf_host_load_object made: their values stay, and bpf_host_unload removes the older program. */
+/* Whether two objects that were read have the same maps by number: names, shapes and initial values. Then bpf_host_replace puts one in place of the
+ * other. */
 static inline bool bpf_host_same_maps(const struct bpf_host_object *one, const struct bpf_host_object *other)
 {
     bool same = one->maps_len == other->maps_len;
@@ -306,6 +306,27 @@ static inline bool bpf_host_same_maps(const struct bpf_host_object *one, const s
                a->first_len == b->first_len && memcmp(a->first, b->first, a->first_len) == 0;
     }
     return same;
+}
+
+/* Replaces the program with the number `*program` by that of an object with the same maps, which keep their values: it is loaded beside the old one,
+ * then that is removed, and the new number is written. If it is refused, the old program stays. Refused: CLOSED, WRONG_LENGTH if the text's length
+ * exceeds its array, and what bpf_host_load and bpf_host_unload refuse. */
+static inline uint32_t bpf_host_replace(struct bpf_host *host, uint32_t tenant, const struct bpf_host_object *object, uint32_t *program,
+                                        struct bpf_host_refused *refused)
+{
+    uint32_t next = 0;
+    if (object->text_len > sizeof object->text)
+        return BPF_HOST_WRONG_LENGTH;
+    uint32_t code = bpf_host_load(host, tenant, object->text, object->text_len, object->context_size, &next, refused);
+    if (code != BPF_HOST_DONE)
+        return code;
+    /* A new program has the number of none that is loaded. */
+    code = next == *program ? (uint32_t)BPF_HOST_NO_PROGRAM : bpf_host_unload(host, tenant, *program);
+    if (code == BPF_HOST_DONE)
+        *program = next;
+    else
+        bpf_host_unload(host, tenant, next);
+    return code;
 }
 
 /* The name of what a call returned. */

@@ -184,24 +184,40 @@ static void test_same_maps(void)
     CHECK(bpf_host_same_maps(&other, &object), false);
 }
 
-/* A program that is loaded beside another one, on its maps, goes on with their values when that one is unloaded. */
+/* A program that replaces another one goes on with the values of its maps. What is refused leaves the old one and its number. */
 static void test_replaced_program(void)
 {
     struct bpf_host host = {0};
     struct bpf_host_refused refused = {0, 0, 0};
     static const uint8_t kept[8] = {9, 8, 7, 6, 5, 4, 3, 2};
     uint8_t value[8] = {0};
-    uint32_t first = 99, next = 99;
-    open_host(&host, 8, 1);
+    uint32_t program = 99, other = 99;
     CHECK(read_object(read_file("crates/bpf_object/data/globals.o"), "", 0), 0);
-    CHECK(bpf_host_load_object(&host, 0, &object, true, &first, &refused), 0);
+    CHECK(bpf_host_replace(&host, 0, &object, &program, &refused), BPF_HOST_CLOSED);
+    open_host(&host, 8, 1);
+    CHECK(bpf_host_load_object(&host, 0, &object, true, &program, &refused), 0);
     CHECK(object.maps[0].shape.value_size, sizeof kept);
     CHECK(bpf_host_update(&host, 0, 0, 0, kept, sizeof kept, &refused), 0);
-    CHECK(bpf_host_load(&host, 0, object.text, object.text_len, object.context_size, &next, &refused), 0);
-    CHECK(bpf_host_unload(&host, 0, first), 0);
-    CHECK(next != first, true);
+    CHECK(bpf_host_replace(&host, 0, &object, &program, &refused), 0);
+    CHECK(program, 1);
+    CHECK(bpf_host_unload(&host, 0, 0), BPF_HOST_NO_PROGRAM);
     CHECK(bpf_host_lookup(&host, 0, 0, 0, value, sizeof value), 0);
     CHECK(memcmp(value, kept, sizeof kept), 0);
+    for (other = 0; other < 3; other += 2) {
+        uint32_t number = other;
+        CHECK(bpf_host_replace(&host, 0, &object, &number, &refused), BPF_HOST_NO_PROGRAM);
+        CHECK(number, other);
+        CHECK(bpf_host_unload(&host, 0, 0), BPF_HOST_NO_PROGRAM);
+        CHECK(bpf_host_unload(&host, 0, 2), BPF_HOST_NO_PROGRAM);
+    }
+    CHECK(bpf_host_replace(&host, 1, &object, &program, &refused), BPF_HOST_BAD_TENANT);
+    object.context_size = 7;
+    CHECK(bpf_host_replace(&host, 0, &object, &program, &refused), BPF_HOST_BAD_CONTEXT);
+    object.context_size = 0;
+    object.text_len = 32769;
+    CHECK(bpf_host_replace(&host, 0, &object, &program, &refused), BPF_HOST_WRONG_LENGTH);
+    CHECK(program, 1);
+    CHECK(bpf_host_unload(&host, 0, 1), 0);
     bpf_host_free(&host);
 }
 

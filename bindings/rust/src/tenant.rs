@@ -123,7 +123,7 @@ impl<'h> Tenant<'h> {
 impl<'h> Tenant<'h> {
     /// Makes the maps of an object file and loads its program, for a tenant that has no map, since the text names maps by number. Where that is
     /// refused, the maps are dropped, but for one that a loaded program of the tenant names. `map` finds the maps afterwards; `load` loads further
-    /// programs of the same file, and of a new version whose `maps` are equal: it goes on with their values when the older one is unloaded.
+    /// programs of the same file.
     pub fn load_object(&self, object: &Object, mergeable: bool) -> Result<Program<'h>, Refused> {
         if (0..8).any(|number| self.map(number).is_ok()) {
             return Err(Refused::has_maps());
@@ -299,6 +299,22 @@ impl<'h> Program<'h> {
         Ok(OpenRun {
             tenant: self.tenant,
         })
+    }
+
+    /// Puts a new version in place of the program, on the same maps, whose values stay: an object whose `maps` equal those of the program's. It is
+    /// loaded beside the program, which is then unloaded; where that is refused, the program comes back.
+    pub fn replace(self, next: &Object) -> Result<Program<'h>, (Program<'h>, Refused)> {
+        let loaded = match self.tenant.load(&next.text, next.context_size) {
+            Ok(loaded) => loaded,
+            Err(refused) => return Err((self, refused)),
+        };
+        match self.unload() {
+            Ok(()) => Ok(loaded),
+            Err(old) => {
+                let _ = loaded.unload();
+                Err(old)
+            }
+        }
     }
 
     /// Takes the program from its tenant.

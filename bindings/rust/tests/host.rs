@@ -281,12 +281,18 @@ fn a_program_is_replaced_on_its_maps() {
     let object = Object::read(&file("globals.o"), "", 0).unwrap();
     let host = host(8, 1);
     let first = host.tenant(0).load_object(&object, true).unwrap();
-    let steps = first.run(&[]).unwrap().steps;
-    let value = host.tenant(0).map(0).unwrap().get(0).unwrap();
-    let next = host.tenant(0).load(&object.text, object.context_size);
-    first.unload().map_err(|(_, refused)| refused).unwrap();
-    assert_eq!(host.tenant(0).map(0).unwrap().get(0), Ok(value));
-    assert_eq!(next.unwrap().run(&[]).unwrap().steps, steps);
+    let kept = [9, 8, 7, 6, 5, 4, 3, 2];
+    host.tenant(0).map(0).unwrap().update(0, &kept).unwrap();
+    let next = first.replace(&object).map_err(|(_, refused)| refused);
+    let next = next.unwrap();
+    assert_eq!(host.tenant(0).map(0).unwrap().get(0), Ok(kept.to_vec()));
+    let cut = Object {
+        text: vec![0; 7],
+        ..object
+    };
+    let (next, refused) = next.replace(&cut).err().unwrap();
+    assert_eq!(refused.name(), "BadLength");
+    assert_eq!(next.run(&[]).unwrap().steps, 6);
 }
 
 #[test]
