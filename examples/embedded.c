@@ -18,7 +18,7 @@ static struct bpf_host_refused refused;
 /* A `struct request` of client 7. */
 static const uint8_t request[8] = {7};
 
-/* Prints a refusal's name and, of an upload, why: once, since a later refusal has another reason. */
+/* Prints a refusal's name and, of an upload, why; then clears that. */
 static void print_refusal(uint32_t code)
 {
     printf("%s\n%s\n", bpf_host_code_name(code), object.why);

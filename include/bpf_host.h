@@ -15,10 +15,10 @@
  * WHAT A CALL RETURNS. BPF_HOST_DONE, which is 0, or a refusal; bpf_host_code_name returns its name. Each call lists its refusals without BPF_HOST_,
  * in the order in which they are tested; docs/HOST.md says when 31 to 45 are returned.
  *     a rule           1 to 25: the program breaks this rule of the verifier, at the slot `refused->slot`
- *     NO_FRAMES        more frames are needed than are available: `refused->need` and `refused->have`. Not where the host has two frames for
- *                      each page of its maps, also of one that is to be made, and two more
+ *     NO_FRAMES        more frames are needed than are available: `refused->need` and `refused->have`. Never where the host has two frames
+ *                      for each page of its maps, a map to be made included, and two more
  *     OUT_OF_MEMORY    no other refusal applies; but bpf_host_load returns it before 11 to 25 if there is no memory to verify the text,
- *                      and bpf_host_read_object before 103 and a rule
+ *                      and bpf_host_read_object before 103 and a rule; bpf_host_lower and bpf_host_replace before what they list after it
  *     CLOSED           the handle is closed
  *     OPEN_ALREADY     the handle is already open (bpf_host_new)
  *     WRONG_LENGTH     the buffer's length isn't the value's (bpf_host_lookup), or it is too short (bpf_host_lower, bpf_host_explain), or the
@@ -30,9 +30,10 @@
  * tenant's earlier runs.
  * A call that doesn't return 0 changed nothing, neither the host nor what the caller's pointers point to, except the members of
  * `*refused` that the number concerns (slot; need and have), `*written` if a buffer is too short, `object->why`, what bpf_host_run_many
- * did before the refusal, and the maps that bpf_host_load_object made and dropped.
+ * did before the refusal, and the maps that bpf_host_load_object made, which it drops.
  *
- * A refused call may be repeated: after NO_FRAMES when runs have ended or visits have merged pages, after OUT_OF_MEMORY when there is memory.
+ * A call that was refused may be repeated, but bpf_host_run_many would repeat runs: after NO_FRAMES when runs have ended or visits have merged pages,
+ * after OUT_OF_MEMORY when there is memory.
  *
  * LIMITS. A host has 2 to 4096 frames of 4096 bytes and 1 to 16 tenants; a tenant at most 8 maps, 8 loaded programs and one open run. A map has 1 to
  * 65536 values of 1 to 4096 bytes, on at most 256 pages (1 MiB): a value takes a multiple of 8 bytes there. A program has 1 to 4096 slots of 8 bytes
@@ -43,8 +44,8 @@
  *     true or false. An empty buffer needs a pointer that isn't null, too.
  *   - No two pointers of one call point to the same bytes, except those that are `const`. Until the call returns, nobody else writes to
  *     these bytes: bpf_host_run reads a context where it is.
- *   - The members of a `struct bpf_host` belong to the library: the caller neither reads nor writes them, and once a handle was opened, uses
- *     no copy of it beside it.
+ *   - The members of a `struct bpf_host` belong to the library: the caller neither reads nor writes them, and never uses a
+ *     copy of an open handle.
  *   - At most one call at a time uses a handle. Another thread may continue with it after a lock, the start or join of a thread, or a
  *     sequentially consistent atomic, any of which orders the calls of one thread before those of the other.
  *     Each call writes to its handle: handles that several threads use are faster in different lines of the cache.
@@ -80,7 +81,7 @@ struct bpf_host_options {
     uint32_t max_page_sharing; /* how many pages may share a frame, 2 to 65535 */
 };
 
-/* The default options of a host. */
+/* The default options of a host, as an initializer. */
 #define BPF_HOST_OPTIONS {100, 1, 0, 256}
 
 /* The numbers of the options, for bpf_host_set. */
@@ -156,11 +157,11 @@ struct bpf_host_shape {
 };
 
 /* A map of an object file: one that it defines, or that holds its global variables. All values begin as zeros, except value 0, which
- * begins as the `first_len` bytes of `first` if `first_len` isn't 0 but a value's size. */
+ * begins as the bytes of `first` if `first_len` is a value's size, and not 0. */
 struct bpf_host_object_map {
     struct bpf_host_shape shape;
     uint32_t first_len;
-    char name[64]; /* UTF-8, padded with zeros; a longer name is cut */
+    char name[64]; /* UTF-8 and zeros, one at least: a longer name is cut */
     uint8_t first[4096];
 };
 
@@ -172,7 +173,7 @@ struct bpf_host_object {
     uint32_t maps_len;
     uint8_t text[32768];
     struct bpf_host_object_map maps[8];
-    char why[1024]; /* after a refusal the reason, with the line of C: UTF-8 and zeros; more is cut */
+    char why[1024]; /* after a refusal the reason, with the line of C: UTF-8 and zeros, one at least; more is cut */
 };
 
 /* The counters, by the names of the kernel's manual. */
@@ -295,22 +296,22 @@ uint32_t bpf_host_read_object(const uint8_t *file, size_t file_len, const char *
 uint32_t bpf_host_load_object(struct bpf_host *host, uint32_t tenant, const struct bpf_host_object *object, bool mergeable, uint32_t *program,
                               struct bpf_host_refused *refused);
 
-/* Whether two objects that were read have the same maps by number: names, shapes and initial values. Then bpf_host_replace puts one in place of the
- * other. */
+/* Whether two objects that were read have the same maps by number: names, shapes and initial values. Then bpf_host_replace can put one in place of the
+ * other. Their context sizes may differ. */
 static inline bool bpf_host_same_maps(const struct bpf_host_object *one, const struct bpf_host_object *other)
 {
-    bool same = one->maps_len == other->maps_len;
+    bool same = one->maps_len == other->maps_len && one->maps_len <= 8;
     for (uint32_t number = 0; same && number < one->maps_len; number++) {
         const struct bpf_host_object_map *a = &one->maps[number], *b = &other->maps[number];
         same = memcmp(a->name, b->name, sizeof a->name) == 0 && a->shape.value_size == b->shape.value_size && a->shape.entries == b->shape.entries &&
-               a->first_len == b->first_len && memcmp(a->first, b->first, a->first_len) == 0;
+               a->first_len == b->first_len && a->first_len <= sizeof a->first && memcmp(a->first, b->first, a->first_len) == 0;
     }
     return same;
 }
 
 /* Replaces the program with the number `*program` by that of an object with the same maps, which keep their values: it is loaded beside the old one,
- * then that is removed, and the new number is written. If it is refused, the old program stays. Refused: CLOSED, WRONG_LENGTH if the text's length
- * exceeds its array, and what bpf_host_load and bpf_host_unload refuse. */
+ * then that is removed, and the new number is written. If it is refused, the old program stays. Refused: WRONG_LENGTH if the text's length exceeds
+ * its array, what bpf_host_load refuses, and then NO_PROGRAM. */
 static inline uint32_t bpf_host_replace(struct bpf_host *host, uint32_t tenant, const struct bpf_host_object *object, uint32_t *program,
                                         struct bpf_host_refused *refused)
 {
@@ -320,7 +321,7 @@ static inline uint32_t bpf_host_replace(struct bpf_host *host, uint32_t tenant, 
     uint32_t code = bpf_host_load(host, tenant, object->text, object->text_len, object->context_size, &next, refused);
     if (code != BPF_HOST_DONE)
         return code;
-    /* A new program has the number of none that is loaded. */
+    /* The new number was free before, so no program had it. */
     code = next == *program ? (uint32_t)BPF_HOST_NO_PROGRAM : bpf_host_unload(host, tenant, *program);
     if (code == BPF_HOST_DONE)
         *program = next;

@@ -1,4 +1,4 @@
-//! The calls of `include/bpf_host.h`, as they stand there.
+//! Calls of `include/bpf_host.h`, as they stand there.
 
 use std::ffi::c_void;
 

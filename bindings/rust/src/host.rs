@@ -109,7 +109,7 @@ impl Host {
         })
     }
 
-    /// A tenant by its number. Where there is none, each of its calls is refused as `BadTenant`.
+    /// A tenant by its number. Where there is none, `map` is refused as `NoMap`, and each other call as `BadTenant`.
     pub fn tenant(&self, number: u32) -> Tenant<'_> {
         Tenant::new(self, number)
     }

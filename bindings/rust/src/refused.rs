@@ -3,7 +3,7 @@
 use crate::ffi;
 use std::fmt;
 
-/// A refusal: its number of docs/HOST.md, and what belongs to it. A refused call changed nothing.
+/// A refusal: its number of docs/HOST.md, and what belongs to it. A refused call changed nothing, unless it says otherwise.
 #[derive(Clone, Copy, Debug, PartialEq, Eq)]
 pub struct Refused {
     /// 1 to 25 are rules of the verifier, 31 to 45 refusals of the host, 102 is a length that no call takes, 103 an
@@ -92,7 +92,7 @@ impl Refused {
             43 => "InUse",
             44 => "PagesShared",
             45 => "TooManyPrograms",
-            102 => "BadLength of a buffer",
+            102 => "WrongLength",
             103 => "BadObject",
             104 => "HasMaps",
             _ => "an unknown refusal",

@@ -328,7 +328,7 @@ impl<'h> Program<'h> {
 }
 
 impl OpenRun<'_> {
-    /// Makes so many instructions, or those to the end, which it answers.
+    /// Makes at most so many steps, and returns a run that ended with them.
     pub fn step(&mut self, steps: u64) -> Result<Option<Run>, Refused> {
         let (mut ended, mut run) = (false, ffi::Run::default());
         // SAFETY: as in `Tenant::create_map`.
