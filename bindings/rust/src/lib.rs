@@ -16,6 +16,28 @@
 //! # Ok::<(), bpf_host::Refused>(())
 //! ```
 //!
+//! A filter of an object file, and a new version in its place, for which the maps keep their values:
+//!
+//! ```no_run
+//! use bpf_host::{Host, Object, Options};
+//!
+//! let first = Object::read(&std::fs::read("caps.o")?, "admit", 8)?;
+//! let host = Host::new(32, 1, Options::default())?;
+//! let mut program = host.tenant(0).load_object(&first, false)?;
+//! let next = Object::read(&std::fs::read("caps_2.o")?, "admit", 8)?;
+//! if next.maps == first.maps {
+//!     program = match program.replace(&next) {
+//!         Ok(replaced) => replaced,
+//!         Err((old, refused)) => {
+//!             eprintln!("{refused}");
+//!             old
+//!         }
+//!     };
+//! }
+//! let status = program.run(&[7, 0, 0, 0, 0, 0, 0, 0])?.ret;
+//! # Ok::<(), Box<dyn std::error::Error>>(())
+//! ```
+//!
 //! A map is not used after its host is gone:
 //!
 //! ```compile_fail
