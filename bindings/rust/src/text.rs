@@ -49,11 +49,7 @@ pub fn verify(text: &[u8], shapes: &[Option<Shape>], context_size: u32) -> Resul
 /// assert!(bpf_host::verify(&lowered, &[], 0).is_ok());
 /// # Ok::<(), bpf_host::Refused>(())
 /// ```
-pub fn lower(
-    text: &[u8],
-    shapes: &[Option<Shape>],
-    context_size: u32,
-) -> Result<Vec<u8>, Refused> {
+pub fn lower(text: &[u8], shapes: &[Option<Shape>], context_size: u32) -> Result<Vec<u8>, Refused> {
     let shapes = given(shapes);
     let mut refused = ffi::Refused::default();
     let mut lowered = vec![0; MOST_BYTES];

@@ -1,7 +1,7 @@
 //! What a program in Rust sees of a host: values, refusals and counters of docs/HOST.md and docs/MERGING.md.
 
-use bpf_host::{Counters, Frames, Host, Object, Options, Refused, Run, Setting, Shape};
 use bpf_host::{explain, lower, verify};
+use bpf_host::{Counters, Frames, Host, Object, Options, Refused, Run, Setting, Shape};
 
 /// r0 = 42, exit.
 const ANSWER: &str = "b70000002a0000009500000000000000";
@@ -104,12 +104,17 @@ fn many_runs_are_made_in_their_order() {
     assert_eq!(rets, [1, 2, 3, 4, 5]);
     let refused = counter.run_many(&[0; 7], &mut rets).unwrap_err();
     assert_eq!((refused.code, rets), (102, [1, 2, 3, 4, 5]));
-    let first_byte = host.tenant(0).load(&text("71100000000000009500000000000000"), 8).unwrap();
+    let first_byte = host
+        .tenant(0)
+        .load(&text("71100000000000009500000000000000"), 8)
+        .unwrap();
     let mut contexts = [0; 24];
     (contexts[0], contexts[8], contexts[16]) = (5, 6, 7);
     first_byte.run_many(&contexts, &mut rets[..3]).unwrap();
     assert_eq!(rets, [5, 6, 7, 4, 5]);
-    let refused = first_byte.run_many(&contexts[..16], &mut rets[..4]).unwrap_err();
+    let refused = first_byte
+        .run_many(&contexts[..16], &mut rets[..4])
+        .unwrap_err();
     assert_eq!((refused.name(), rets), ("BadContext", [5, 6, 7, 4, 5]));
 }
 
@@ -250,7 +255,10 @@ fn a_text_is_explained_in_lines() {
         1  9500000000000000  exit                            ; r0 = 42\n";
     assert_eq!(explain(&text(ANSWER), &[], 0).as_deref(), Ok(lines));
     let refused = explain(&text("bf12000000000000"), &[], 0).unwrap();
-    assert!(refused.starts_with("refused 13 FallsOff at 0\n"), "{refused}");
+    assert!(
+        refused.starts_with("refused 13 FallsOff at 0\n"),
+        "{refused}"
+    );
     let long = [text(ANSWER)[..8].repeat(4095), text(ANSWER)[8..].to_vec()].concat();
     assert!(explain(&long, &[], 0).unwrap().lines().count() > 4096);
 }
@@ -307,5 +315,7 @@ fn a_refused_object_leaves_no_map_and_says_why() {
     assert!(refused.why.contains("there are several functions, "));
     let refused = Object::read(&file("unset.o"), "", 0).unwrap_err();
     assert_eq!(refused.refused.slot, Some(0));
-    assert!(refused.to_string().starts_with("refused 14 UnsetRegister at 0\n"));
+    assert!(refused
+        .to_string()
+        .starts_with("refused 14 UnsetRegister at 0\n"));
 }
