@@ -155,7 +155,7 @@ static void test_refused_objects(void)
     bpf_host_free(&host);
 }
 
-/* An object takes another one's place on its maps where names, shapes and initial values are the same, whatever follows an initial value. */
+/* Two objects have the same maps where names, shapes and initial values are the same, whatever follows an initial value. */
 static void test_same_maps(void)
 {
     static struct bpf_host_object other;
@@ -182,6 +182,12 @@ static void test_same_maps(void)
     other.maps_len--;
     CHECK(bpf_host_same_maps(&object, &other), false);
     CHECK(bpf_host_same_maps(&other, &object), false);
+    other = object;
+    other.maps_len = 9;
+    CHECK(bpf_host_same_maps(&other, &other), false);
+    other = object;
+    other.maps[0].first_len = 4097;
+    CHECK(bpf_host_same_maps(&other, &other), false);
 }
 
 /* A program that replaces another one goes on with the values of its maps. What is refused leaves the old one and its number. */
@@ -191,7 +197,7 @@ static void test_replaced_program(void)
     struct bpf_host_refused refused = {0, 0, 0};
     static const uint8_t kept[8] = {9, 8, 7, 6, 5, 4, 3, 2};
     uint8_t value[8] = {0};
-    uint32_t program = 99, other = 99;
+    uint32_t program = 99;
     CHECK(read_object(read_file("crates/bpf_object/data/globals.o"), "", 0), 0);
     CHECK(bpf_host_replace(&host, 0, &object, &program, &refused), BPF_HOST_CLOSED);
     open_host(&host, 8, 1);
@@ -203,10 +209,10 @@ static void test_replaced_program(void)
     CHECK(bpf_host_unload(&host, 0, 0), BPF_HOST_NO_PROGRAM);
     CHECK(bpf_host_lookup(&host, 0, 0, 0, value, sizeof value), 0);
     CHECK(memcmp(value, kept, sizeof kept), 0);
-    for (other = 0; other < 3; other += 2) {
-        uint32_t number = other;
+    for (uint32_t missing = 0; missing < 3; missing += 2) {
+        uint32_t number = missing;
         CHECK(bpf_host_replace(&host, 0, &object, &number, &refused), BPF_HOST_NO_PROGRAM);
-        CHECK(number, other);
+        CHECK(number, missing);
         CHECK(bpf_host_unload(&host, 0, 0), BPF_HOST_NO_PROGRAM);
         CHECK(bpf_host_unload(&host, 0, 2), BPF_HOST_NO_PROGRAM);
     }

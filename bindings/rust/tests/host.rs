@@ -291,8 +291,11 @@ fn a_program_is_replaced_on_its_maps() {
     let first = host.tenant(0).load_object(&object, true).unwrap();
     let kept = [9, 8, 7, 6, 5, 4, 3, 2];
     host.tenant(0).map(0).unwrap().update(0, &kept).unwrap();
-    let next = first.replace(&object).map_err(|(_, refused)| refused);
-    let next = next.unwrap();
+    // A tenant has at most eight programs, so each of the older ones was unloaded.
+    let next = (0..20).fold(first, |program, _| {
+        let replaced = program.replace(&object);
+        replaced.map_err(|(_, refused)| refused).unwrap()
+    });
     assert_eq!(host.tenant(0).map(0).unwrap().get(0), Ok(kept.to_vec()));
     let cut = Object {
         text: vec![0; 7],
