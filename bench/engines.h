@@ -88,8 +88,8 @@ static inline uint64_t run_compiled(struct loaded *loaded, const uint8_t *contex
 /* Runs a program on all contexts in one call, and writes what each run returns. */
 static inline void run_many(struct loaded *loaded, uint64_t rets[CONTEXTS])
 {
-    size_t size = CONTEXTS * loaded->program->context_size;
-    failed |= bpf_host_run_many(&loaded->many, 0, 0, loaded->contexts, size, rets, CONTEXTS, &refused);
+    size_t made, size = CONTEXTS * loaded->program->context_size;
+    failed |= bpf_host_run_many(&loaded->many, 0, 0, loaded->contexts, size, rets, CONTEXTS, &made, &refused);
 }
 
 /* Goes over the contexts so many times, with a call each time: a number of all that the runs returned. */

@@ -29,11 +29,11 @@
  * bpf_host_lookup and bpf_host_update allocate no memory, and bpf_host_begin and _run only if the context is longer than those of the
  * tenant's earlier runs.
  * A call that doesn't return 0 changed nothing, neither the host nor what the caller's pointers point to, except the members of
- * `*refused` that the number concerns (slot; need and have), `*written` if a buffer is too short, `object->why`, what bpf_host_run_many
- * did before the refusal, and the maps that bpf_host_load_object made, which it drops.
+ * `*refused` that the number concerns (slot; need and have), `*written` if a buffer is too short, `object->why`, the runs that bpf_host_run_many
+ * made before the refusal and their number, and the maps that bpf_host_load_object made, which it drops.
  *
- * A call that was refused may be repeated, but bpf_host_run_many would repeat runs: after NO_FRAMES when runs have ended or visits have merged pages,
- * after OUT_OF_MEMORY when there is memory.
+ * A call that was refused may be repeated, after NO_FRAMES when runs have ended or visits have merged pages, after OUT_OF_MEMORY when there is
+ * memory; bpf_host_run_many with the contexts for which no run was made.
  *
  * LIMITS. A host has 2 to 4096 frames of 4096 bytes and 1 to 16 tenants; a tenant at most 8 maps, 8 loaded programs and one open run. A map has 1 to
  * 65536 values of 1 to 4096 bytes, on at most 256 pages (1 MiB): a value takes a multiple of 8 bytes there. A program has 1 to 4096 slots of 8 bytes
@@ -65,7 +65,7 @@ extern "C" {
 #endif
 
 /* The version of this header. The library has the same version if bpf_host_version returns this number. */
-#define BPF_HOST_VERSION 4
+#define BPF_HOST_VERSION 5
 
 /* A handle: {0} is closed. */
 struct bpf_host {
@@ -224,10 +224,11 @@ uint32_t bpf_host_run(struct bpf_host *host, uint32_t tenant, uint32_t program, 
                       struct bpf_host_run *run, struct bpf_host_refused *refused);
 
 /* Runs a program once for each of `rets_len` contexts of one size, stored one after the other, and writes what each run returns: short runs take
- * less time this way than with one call each. It stops at the first refusal: the earlier runs were made, and `rets` is unchanged from there on.
- * Refused: WRONG_LENGTH if the contexts can't all have the same size, and what bpf_host_run refuses. */
+ * less time this way than with one call each. It stops at the first refusal. `*made` is written in any case: how many runs were made, which are the
+ * first ones; the other members of `rets` are unchanged. Refused: WRONG_LENGTH if the contexts can't all have the same size, and what bpf_host_run
+ * refuses. */
 uint32_t bpf_host_run_many(struct bpf_host *host, uint32_t tenant, uint32_t program, const uint8_t *contexts, size_t contexts_len, uint64_t *rets,
-                           size_t rets_len, struct bpf_host_refused *refused);
+                           size_t rets_len, size_t *made, struct bpf_host_refused *refused);
 
 /* Opens a run of a program on a context, and reserves the frames that it may need. Refused: CLOSED, BAD_TENANT, BUSY, NO_PROGRAM, BAD_CONTEXT,
  * NO_FRAMES, OUT_OF_MEMORY. */

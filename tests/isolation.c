@@ -147,14 +147,17 @@ static void load(struct side *side, const struct event *event, struct reply *rep
     reply->code = bpf_host_load(&side->host, event->tenant, text, len, event->size, &reply->number, &reply->refused);
 }
 
-/* Runs a program on several contexts, of which each next one has greater bytes. The reply's value is the numbers that are returned. */
+/* Runs a program on several contexts, of which each next one has greater bytes. The reply's number is how many runs were made, and its value the
+ * numbers that are returned. */
 static void run_many(struct side *side, const struct event *event, struct reply *reply)
 {
     uint8_t contexts[RUNS * CONTEXT];
     uint64_t rets[RUNS] = {0};
+    size_t made;
     for (uint32_t at = 0; at < RUNS * event->size; at++)
         contexts[at] = (uint8_t)(event->byte + at / event->size);
-    reply->code = bpf_host_run_many(&side->host, event->tenant, event->number, contexts, RUNS * event->size, rets, RUNS, &reply->refused);
+    reply->code = bpf_host_run_many(&side->host, event->tenant, event->number, contexts, RUNS * event->size, rets, RUNS, &made, &reply->refused);
+    reply->number = (uint32_t)made;
     reply->len = sizeof rets;
     memcpy(reply->value, rets, sizeof rets);
 }

@@ -23,9 +23,9 @@ uint32_t __real_bpf_host_run(struct bpf_host *host, uint32_t tenant, uint32_t pr
 uint32_t __wrap_bpf_host_run(struct bpf_host *host, uint32_t tenant, uint32_t program, const uint8_t *context, size_t context_len,
                              struct bpf_host_run *run, struct bpf_host_refused *refused);
 uint32_t __real_bpf_host_run_many(struct bpf_host *host, uint32_t tenant, uint32_t program, const uint8_t *contexts, size_t contexts_len,
-                                  uint64_t *rets, size_t rets_len, struct bpf_host_refused *refused);
+                                  uint64_t *rets, size_t rets_len, size_t *made, struct bpf_host_refused *refused);
 uint32_t __wrap_bpf_host_run_many(struct bpf_host *host, uint32_t tenant, uint32_t program, const uint8_t *contexts, size_t contexts_len,
-                                  uint64_t *rets, size_t rets_len, struct bpf_host_refused *refused);
+                                  uint64_t *rets, size_t rets_len, size_t *made, struct bpf_host_refused *refused);
 uint32_t __real_bpf_host_step(struct bpf_host *host, uint32_t tenant, uint64_t steps, bool *ended, struct bpf_host_run *run);
 uint32_t __wrap_bpf_host_step(struct bpf_host *host, uint32_t tenant, uint64_t steps, bool *ended, struct bpf_host_run *run);
 uint32_t __real_bpf_host_create_map(struct bpf_host *host, uint32_t tenant, uint32_t value_size, uint32_t entries, bool mergeable, uint32_t *map,
@@ -71,14 +71,14 @@ uint32_t __wrap_bpf_host_run(struct bpf_host *host, uint32_t tenant, uint32_t pr
 }
 
 uint32_t __wrap_bpf_host_run_many(struct bpf_host *host, uint32_t tenant, uint32_t program, const uint8_t *contexts, size_t contexts_len,
-                                  uint64_t *rets, size_t rets_len, struct bpf_host_refused *refused)
+                                  uint64_t *rets, size_t rets_len, size_t *made, struct bpf_host_refused *refused)
 {
     struct bpf_host_counters counters;
     if (PLANT == 6 || (PLANT == 4 && bpf_host_unload(host, next_tenant(tenant), NO_PROGRAM_HAS) == BUSY))
         return BUSY;
     if (PLANT == 9 && rets_len > 0 && bpf_host_counters(host, &counters) == 0 && counters.pages_sharing > 0)
-        return __real_bpf_host_run_many(host, tenant, program, contexts, contexts_len - contexts_len / rets_len, rets, rets_len - 1, refused);
-    return __real_bpf_host_run_many(host, tenant, program, contexts, contexts_len, rets, rets_len, refused);
+        return __real_bpf_host_run_many(host, tenant, program, contexts, contexts_len - contexts_len / rets_len, rets, rets_len - 1, made, refused);
+    return __real_bpf_host_run_many(host, tenant, program, contexts, contexts_len, rets, rets_len, made, refused);
 }
 
 uint32_t __wrap_bpf_host_step(struct bpf_host *host, uint32_t tenant, uint64_t steps, bool *ended, struct bpf_host_run *run)

@@ -54,40 +54,60 @@ static void test_counter(void)
 /* Returns the context's first eight bytes. */
 #define FIRST_WORD "7910000000000000 9500000000000000"
 
+/* Runs a program on so many bytes of contexts, one run for each of `count` numbers: it is refused with `code`, and no run is made. */
+static void check_none_made(struct bpf_host *host, uint32_t tenant, uint32_t program, size_t bytes, size_t count, uint32_t code)
+{
+    const uint8_t contexts[24] = {0};
+    uint64_t rets[3] = {1, 2, 3};
+    size_t made = 9;
+    CHECK(bpf_host_run_many(host, tenant, program, contexts, bytes, rets, count, &made, &last_refused), code);
+    CHECK(made, 0);
+    CHECK(rets[0] == 1 && rets[1] == 2 && rets[2] == 3, true);
+}
+
 static void test_many_runs(void)
 {
     struct bpf_host host = {0};
     const uint8_t contexts[24] = {5, 0, 0, 0, 0, 0, 0, 0, 6, 0, 0, 0, 0, 0, 0, 0, 7};
     uint64_t rets[3] = {1, 2, 3};
-    CHECK(bpf_host_run_many(&host, 0, 0, contexts, 24, rets, 3, &last_refused), 100);
+    size_t made = 9;
+    check_none_made(&host, 0, 0, 24, 3, 100);
     open_host(&host, 8, 1);
     CHECK(load_hex(&host, 0, FIRST_WORD, 8), 0);
-    CHECK(bpf_host_run_many(&host, 0, 0, contexts, 23, rets, 3, &last_refused), 102);
-    CHECK(bpf_host_run_many(&host, 0, 0, contexts, 8, rets, 0, &last_refused), 102);
-    CHECK(bpf_host_run_many(&host, 0, 0, contexts, 16, rets, 1, &last_refused), 39);
-    CHECK(bpf_host_run_many(&host, 0, 1, contexts, 24, rets, 3, &last_refused), 38);
-    CHECK(bpf_host_run_many(&host, 1, 0, contexts, 24, rets, 3, &last_refused), 42);
-    CHECK(rets[0] == 1 && rets[1] == 2 && rets[2] == 3, true);
-    CHECK(bpf_host_run_many(&host, 0, 0, contexts, 24, rets, 3, &last_refused), 0);
+    check_none_made(&host, 0, 0, 23, 3, 102);
+    check_none_made(&host, 0, 0, 8, 0, 102);
+    check_none_made(&host, 0, 0, 16, 1, 39);
+    check_none_made(&host, 0, 1, 24, 3, 38);
+    check_none_made(&host, 1, 0, 24, 3, 42);
+    check_none_made(&host, 0, 0, 0, 0, 0);
+    CHECK(bpf_host_run_many(&host, 0, 0, contexts, 24, rets, 3, &made, &last_refused), 0);
+    CHECK(made, 3);
     CHECK(rets[0] == 5 && rets[1] == 6 && rets[2] == 7, true);
-    CHECK(bpf_host_run_many(&host, 0, 0, contexts, 0, rets, 0, &last_refused), 0);
     bpf_host_free(&host);
 }
 
-/* One frame is free, and the counter's page shares its frame with another: the first run takes the free one, and the second may not begin. */
+/* One frame is free, and the counter's page shares its frame with another: the first run takes the free one, and the second may not begin. Without
+ * the other program's map the second and third run are made by one more call. */
 static void test_runs_that_stop(void)
 {
     struct bpf_host host;
     uint64_t rets[3] = {7, 8, 9};
+    size_t made = 9;
     open_host(&host, 3, 1);
     CHECK(make_map(&host, 0, 8, 1), 0);
     CHECK(make_map(&host, 0, 8, 1), 0);
     CHECK(after_visits(&host, 8).frames_free, 1);
     CHECK(load_hex(&host, 0, COUNTER, 0), 0);
-    CHECK(bpf_host_run_many(&host, 0, 0, (const uint8_t *)"", 0, rets, 3, &last_refused), 31);
+    CHECK(bpf_host_run_many(&host, 0, 0, (const uint8_t *)"", 0, rets, 3, &made, &last_refused), 31);
     CHECK(last_refused.need == 1 && last_refused.have == 0, true);
+    CHECK(made, 1);
     CHECK(rets[0] == 1 && rets[1] == 8 && rets[2] == 9, true);
     check_value(&host, 0, 0, 0, "0100000000000000");
+    CHECK(bpf_host_drop_map(&host, 0, 1), 0);
+    CHECK(bpf_host_run_many(&host, 0, 0, (const uint8_t *)"", 0, rets + made, 3 - made, &made, &last_refused), 0);
+    CHECK(made, 2);
+    CHECK(rets[0] == 1 && rets[1] == 2 && rets[2] == 3, true);
+    check_value(&host, 0, 0, 0, "0300000000000000");
     bpf_host_free(&host);
 }
 

@@ -117,6 +117,7 @@ extern "C" {
         contexts_len: usize,
         rets: *mut u64,
         rets_len: usize,
+        made: *mut usize,
         refused: *mut Refused,
     ) -> u32;
     pub fn bpf_host_begin(

@@ -259,10 +259,10 @@ impl<'h> Program<'h> {
     }
 
     /// Runs the program once for each number to write, on contexts of one size of which one stands after the other, and writes what each
-    /// run returns. It stops at the first refusal, and leaves the return values from there on as they were. 102 where the contexts
-    /// can't have one size.
-    pub fn run_many(&self, contexts: &[u8], rets: &mut [u64]) -> Result<(), Refused> {
-        let mut refused = ffi::Refused::default();
+    /// run returns. It stops at the first refusal, and says how many runs were made before it; the other numbers stay as they were. 102 where
+    /// the contexts can't have one size.
+    pub fn run_many(&self, contexts: &[u8], rets: &mut [u64]) -> Result<(), (usize, Refused)> {
+        let (mut made, mut refused) = (0, ffi::Refused::default());
         // SAFETY: as in `run`; the numbers have their length.
         let code = unsafe {
             let (host, tenant) = (self.tenant.host.handle(), self.tenant.number);
@@ -274,10 +274,11 @@ impl<'h> Program<'h> {
                 contexts.len(),
                 rets.as_mut_ptr(),
                 rets.len(),
+                &mut made,
                 &mut refused,
             )
         };
-        Refused::check(code, refused)
+        Refused::check(code, refused).map_err(|refused| (made, refused))
     }
 
     /// Begins a run, which goes on by `step`, and reserves the frames that it may need.

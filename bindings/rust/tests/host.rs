@@ -102,8 +102,8 @@ fn many_runs_are_made_in_their_order() {
     let mut rets = [0; 5];
     counter.run_many(&[], &mut rets).unwrap();
     assert_eq!(rets, [1, 2, 3, 4, 5]);
-    let refused = counter.run_many(&[0; 7], &mut rets).unwrap_err();
-    assert_eq!((refused.code, rets), (102, [1, 2, 3, 4, 5]));
+    let (made, refused) = counter.run_many(&[0; 7], &mut rets).unwrap_err();
+    assert_eq!((made, refused.code, rets), (0, 102, [1, 2, 3, 4, 5]));
     let first_byte = host
         .tenant(0)
         .load(&text("71100000000000009500000000000000"), 8)
@@ -112,10 +112,29 @@ fn many_runs_are_made_in_their_order() {
     (contexts[0], contexts[8], contexts[16]) = (5, 6, 7);
     first_byte.run_many(&contexts, &mut rets[..3]).unwrap();
     assert_eq!(rets, [5, 6, 7, 4, 5]);
-    let refused = first_byte
+    let (made, refused) = first_byte
         .run_many(&contexts[..16], &mut rets[..4])
         .unwrap_err();
-    assert_eq!((refused.name(), rets), ("BadContext", [5, 6, 7, 4, 5]));
+    assert_eq!(
+        (made, refused.name(), rets),
+        (0, "BadContext", [5, 6, 7, 4, 5])
+    );
+}
+
+#[test]
+fn many_runs_say_how_many_were_made() {
+    let host = host(3, 1);
+    let tenant = host.tenant(0);
+    let _map = tenant.create_map(8, 1, true).unwrap();
+    let other = tenant.create_map(8, 1, true).unwrap();
+    assert_eq!(host.visit(8).unwrap().frames_free, 1);
+    let counter = tenant.load(&text(COUNTER), 0).unwrap();
+    let mut rets = [7, 8, 9];
+    let (made, refused) = counter.run_many(&[], &mut rets).unwrap_err();
+    assert_eq!((made, refused.code, rets), (1, 31, [1, 8, 9]));
+    other.remove().map_err(|(_, refused)| refused).unwrap();
+    counter.run_many(&[], &mut rets[made..]).unwrap();
+    assert_eq!(rets, [1, 2, 3]);
 }
 
 #[test]

@@ -7,9 +7,9 @@ use std::alloc::Global;
 /// The version of the library, which is that of its header, too.
 #[unsafe(no_mangle)]
 pub extern "C" fn bpf_host_version() -> u32
-    ensures { result ≡ 4 }
+    ensures { result ≡ 5 }
 {
-    4
+    5
 }
 
 /// Makes a host of 2 to 4096 frames and 1 to 16 tenants in a closed handle. A handle that is open stays as it is.

@@ -10,6 +10,7 @@ use Rattle.verifier.specs.Verified.{Accepted}
 use Rattle.host_types.specs.Sharing.{Sharing}
 use Rattle.host_core.specs.declared.reply.Reply.{Reply}
 use Rattle.host_core.specs.declared.reply.Reply.TheVariants.{Ended, Refused}
+use Rattle.host_core.specs.declared.reply.Stopped.{Stopped}
 use Rattle.host_core.specs.declared.tenant.OpenRun.{OpenRun as KeptRun}
 use Rattle.host_core.specs.declared.whole_run.Stop.{Stop}
 use Rattle.host_core.specs.declared.whole_run.Stop.TheVariants as stop
@@ -57,10 +58,10 @@ module _ (programs : List (Option Accepted)) (t k : ℕ) (contexts : List ℕ) (
 
 -- runs of a tenant of which none was made, since the next one was refused at once
 pub none-made : (t k : ℕ) (contexts : List ℕ) (size : ℕ) (rets : List ℕ) (from : ℕ) (old new : TenantView) (before after : MemoryState) (reply : Reply) → from < length rets → ((ret steps : ℕ) → reply ≡ Ended ret steps → ⊥)
-    → HasMadeRun t old before k (context_at contexts size from) reply new after → HasMadeRuns t old before k contexts size rets from (Err reply) new after rets
+    → HasMadeRun t old before k (context_at contexts size from) reply new after → HasMadeRuns t old before k contexts size rets from (Err (record { ended = from; reply = reply })) new after rets
 none-made t k contexts size rets from old new before after reply within other made = record {
   n = from;
-  ends = (omega arith, within);
+  ends = (refl, omega arith, within);
   long = refl;
   others = refl;
   runs = λ x tenant there stands memory.
@@ -72,10 +73,10 @@ module _ (programs : List (Option Accepted)) (t k : ℕ) (contexts : List ℕ) (
   module _ (stopped : Stop) (made : HaveStopped programs t k contexts size rets from before stopped kept after written) (within : made.n < length rets) where
     -- a last run whose reply isn't that it ended
     last-made : (reply : Reply) (new : TenantView) (later : MemoryState) → ((ret steps : ℕ) → reply ≡ Ended ret steps → ⊥) → HasMadeRun t (idle_tenant programs) made.between k (context_at contexts size made.n) reply new later
-        → HasMadeRuns t (idle_tenant programs) before k contexts size rets from (Err reply) new later written
+        → HasMadeRuns t (idle_tenant programs) before k contexts size rets from (Err (record { ended = made.n; reply = reply })) new later written
     last-made reply new later other run = record {
       n = made.n;
-      ends = (made.further, within);
+      ends = (refl, made.further, within);
       long = made.long;
       others = made.others;
       runs = λ x tenant there stands memory.
@@ -120,11 +121,11 @@ module _ (programs : List (Option Accepted)) (t k : ℕ) (contexts : List ℕ) (
       }
 
   -- the next run wasn't begun
-  pub refused-made : (fault : Fault) → HaveStopped programs t k contexts size rets from before (stop.Refused fault) kept after written
-      → HasMadeRuns t (idle_tenant programs) before k contexts size rets from (Err (Refused fault)) (idle_tenant programs) after written
-  refused-made fault made =
-      let (within, run) = made.last in
-      last-made (stop.Refused fault) made within (Refused fault) (idle_tenant programs) after (λ ret steps e. cc) run
+  pub refused-made : (index : ℕ) (fault : Fault) → HaveStopped programs t k contexts size rets from before (stop.Refused index fault) kept after written
+      → HasMadeRuns t (idle_tenant programs) before k contexts size rets from (Err (record { ended = index; reply = Refused fault })) (idle_tenant programs) after written
+  refused-made index fault made =
+      let (is, within, run) = made.last in
+      rw is (last-made (stop.Refused index fault) made within (Refused fault) (idle_tenant programs) after (λ ret steps e. cc) run)
 
   module _ (index : ℕ) (made : HaveStopped programs t k contexts size rets from before (stop.Open index) kept after written) (new : TenantView) (later : MemoryState) where
     -- a run that was noted as open ended
@@ -136,10 +137,10 @@ module _ (programs : List (Option Accepted)) (t k : ℕ) (contexts : List ℕ) (
 
     -- or it didn't
     pub open-stopped : (last : Reply) → ((ret steps : ℕ) → last ≡ Ended ret steps → ⊥) → HasMadeSteps t (busy_tenant programs kept) after (4294967296 - kept.run.steps) (Some last) new later
-        → HasMadeRuns t (idle_tenant programs) before k contexts size rets from (Err last) new later written
+        → HasMadeRuns t (idle_tenant programs) before k contexts size rets from (Err (record { ended = index; reply = last })) new later written
     open-stopped last other rest =
         let (is, within, goes) = made.last in
-        last-made (stop.Open index) made within last new later other (goes.whole last new later rest)
+        rw is (last-made (stop.Open index) made within last new later other (goes.whole last new later rest))
 
 -- what later runs leave is what earlier ones left
 pub later_same : (written rets : List ℕ) (n m : ℕ) → n ≤ m → drop n written ≡ drop n rets → drop m written ≡ drop m rets
@@ -149,7 +150,7 @@ later_same written rets n m less same =
 
 module _ (views : List TenantView) (before : MemoryState) (t k : ℕ) (contexts : List ℕ) (size : ℕ) (rets : List ℕ) (from : ℕ) where
   -- runs of a tenant of a host
-  pub host-runs : (after : MemoryState) (old new : TenantView) (result : Result ℕ Reply) (written : List ℕ) → slice_get views t ≡ Some old → HasMadeRuns t old before k contexts size rets from result new after written
+  pub host-runs : (after : MemoryState) (old new : TenantView) (result : Result ℕ Stopped) (written : List ℕ) → slice_get views t ≡ Some old → HasMadeRuns t old before k contexts size rets from result new after written
       → HaveRunFrom t k contexts size rets from result (record { tenants = views; memory = before }) (record { tenants = set views t new; memory = after }) written
   host-runs after old new result written there made = record {
     n = made.n;
@@ -164,10 +165,10 @@ module _ (views : List TenantView) (before : MemoryState) (t k : ℕ) (contexts 
 
   -- runs of no tenant
   pub host-runs_nobody : from < length rets → ReadsAs before → slice_get views t ≡ None
-      → HaveRunFrom t k contexts size rets from (Err (Refused fault.BadTenant)) (record { tenants = views; memory = before }) (record { tenants = views; memory = before }) rets
+      → HaveRunFrom t k contexts size rets from (Err (record { ended = from; reply = Refused fault.BadTenant })) (record { tenants = views; memory = before }) (record { tenants = views; memory = before }) rets
   host-runs_nobody within reads missing = record {
     n = from;
-    ends = (omega arith, within);
+    ends = (refl, omega arith, within);
     long = refl;
     others = refl;
     runs = λ x stands.

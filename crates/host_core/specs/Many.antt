@@ -1,8 +1,9 @@
 -- Runs of a program on contexts of one size, each of which stands after the one before it.
-use Rattle.std.specs.Prelude.{◌≡◌, ◌<◌, ◌*◌, ℕ, zero, suc, List, length, drop, slice_index_or, Option, Some, None}
+use Rattle.std.specs.Prelude.{◌≡◌, ◌<◌, ◌*◌, ℕ, zero, suc, List, length, drop, slice_index_or, Option, Some, None, Result, Ok, Err}
 use Rattle.host_types.specs.Bytes.{part_of}
 use Rattle.host_core.specs.declared.reply.Reply.{Reply}
 use Rattle.host_core.specs.declared.reply.Reply.TheVariants.{Ended}
+use Rattle.host_core.specs.declared.reply.Stopped.{Stopped}
 use Rattle.host_core.specs.World.{System}
 use Rattle.host_core.specs.Happens.{RunHappens}
 use Rattle.host_core.specs.HostView.{HostView, StandsForSystem}
@@ -28,6 +29,16 @@ StopsAfter t k contexts size n (Some reply) x x' =
 abbrev pub RunsMany : ℕ → ℕ → List ℕ → ℕ → List ℕ → ℕ → Option Reply → System → System → Type 0
 RunsMany t k contexts size rets n stopped x x' =
     (between : System) × RunsFirst t k contexts size rets n x between × StopsAfter t k contexts size n stopped between x'
+
+-- how many of so many runs ended
+abbrev pub ended_of : ℕ → Result (Unit {0}) Stopped → ℕ
+ended_of count (Ok all) = count
+ended_of count (Err stopped) = stopped.ended
+
+-- the reply to the run that stopped them, if one did
+abbrev pub stopped_by : {A : Type 0} → Result A Stopped → Option Reply
+stopped_by (Ok all) = None
+stopped_by (Err stopped) = Some stopped.reply
 
 -- n runs ended where nothing stopped them, and else fewer than there are numbers to write
 abbrev pub EndedBefore : ℕ → ℕ → Option Reply → Type 0

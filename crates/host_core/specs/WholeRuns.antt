@@ -6,13 +6,14 @@ use Rattle.page_table.specs.State.{MemoryState}
 use Rattle.verifier.specs.Verified.{Accepted}
 use Rattle.host_core.specs.declared.reply.Reply.{Reply}
 use Rattle.host_core.specs.declared.reply.Reply.TheVariants.{Ended, Refused}
+use Rattle.host_core.specs.declared.reply.Stopped.{Stopped}
 use Rattle.host_core.specs.declared.tenant.OpenRun.{OpenRun as KeptRun}
 use Rattle.host_core.specs.declared.whole_run.Stop.{Stop}
 use Rattle.host_core.specs.declared.whole_run.Stop.TheVariants as stop
 use Rattle.host_core.specs.World.{Tenant, System}
 use Rattle.host_core.specs.Happens.{changed_system}
 use Rattle.host_core.specs.HostView.{TenantView, HostView, StandsForTenant, StandsForMemory, StandsForSystem, IsKept, HasMadeRun, HasMadeSteps}
-use Rattle.host_core.specs.Many.{context_at, RunsFirst, RunsMany}
+use Rattle.host_core.specs.Many.{context_at, RunsFirst, RunsMany, stopped_by}
 
 -- a tenant that has no open run
 abbrev pub idle_tenant : List (Option Accepted) → TenantView
@@ -52,8 +53,8 @@ abbrev pub StopsWith : List (Option Accepted) → ℕ → ℕ → List ℕ → �
 StopsWith programs t k contexts size count n between stop.AllEnded kept after = (n ≡ count) × (after ≡ between)
 StopsWith programs t k contexts size count n between (stop.Open index) kept after =
     (index ≡ n) × (n < count) × HasComeTo programs t k (context_at contexts size n) between (Ok None) kept after
-StopsWith programs t k contexts size count n between (stop.Refused fault) kept after =
-    (n < count) × HasComeTo programs t k (context_at contexts size n) between (Err fault) kept after
+StopsWith programs t k contexts size count n between (stop.Refused index fault) kept after =
+    (index ≡ n) × (n < count) × HasComeTo programs t k (context_at contexts size n) between (Err fault) kept after
 
 -- Runs were made on one context after the other, from a number on, and their numbers are written; the others are as they were.
 pub record HaveStopped (programs : List (Option Accepted)) (t k : ℕ) (contexts : List ℕ) (size : ℕ) (rets : List ℕ) (from : ℕ) (before : MemoryState) (stopped : Stop) (kept : KeptRun) (after : MemoryState) (written : List ℕ) : Type 0 where
@@ -65,18 +66,13 @@ pub record HaveStopped (programs : List (Option Accepted)) (t k : ℕ) (contexts
   pub runs : HaveRunFirst programs t k contexts size rets from before written n between
   pub last : StopsWith programs t k contexts size (length rets) n between stopped kept after
 
--- how many contexts are done: with Ok that number, and more than before; with Err fewer than there are
-abbrev pub EndsAt : ℕ → ℕ → ℕ → Result ℕ Reply → Type 0
+-- how many contexts are done: with Ok more than before; with Err fewer than there are
+abbrev pub EndsAt : ℕ → ℕ → ℕ → Result ℕ Stopped → Type 0
 EndsAt count from n (Ok ended) = (n ≡ ended) × (from < n) × (n ≤ count)
-EndsAt count from n (Err reply) = (from ≤ n) × (n < count)
-
--- the reply that stopped them
-abbrev pub stopped_by : Result ℕ Reply → Option Reply
-stopped_by (Ok ended) = None
-stopped_by (Err reply) = Some reply
+EndsAt count from n (Err stopped) = (n ≡ stopped.ended) × (from ≤ n) × (n < count)
 
 -- what such runs of a tenant do to it
-pub record HasMadeRuns (t : ℕ) (old : TenantView) (before : MemoryState) (k : ℕ) (contexts : List ℕ) (size : ℕ) (rets : List ℕ) (from : ℕ) (result : Result ℕ Reply) (new : TenantView) (after : MemoryState) (written : List ℕ) : Type 0 where
+pub record HasMadeRuns (t : ℕ) (old : TenantView) (before : MemoryState) (k : ℕ) (contexts : List ℕ) (size : ℕ) (rets : List ℕ) (from : ℕ) (result : Result ℕ Stopped) (new : TenantView) (after : MemoryState) (written : List ℕ) : Type 0 where
   pub n : ℕ
   pub ends : EndsAt (length rets) from n result
   pub long : length written ≡ length rets
@@ -86,7 +82,7 @@ pub record HasMadeRuns (t : ℕ) (old : TenantView) (before : MemoryState) (k : 
       × ((first : System) → RunsFirst t k contexts size rets from first x → RunsMany t k contexts size written n (stopped_by result) first (changed_system x t next sharing))
 
 -- and what they do to a host
-pub record HaveRunFrom (t k : ℕ) (contexts : List ℕ) (size : ℕ) (rets : List ℕ) (from : ℕ) (result : Result ℕ Reply) (old new : HostView) (written : List ℕ) : Type 0 where
+pub record HaveRunFrom (t k : ℕ) (contexts : List ℕ) (size : ℕ) (rets : List ℕ) (from : ℕ) (result : Result ℕ Stopped) (old new : HostView) (written : List ℕ) : Type 0 where
   pub n : ℕ
   pub ends : EndsAt (length rets) from n result
   pub long : length written ≡ length rets

@@ -8,13 +8,13 @@ ghost use Rattle.page_table.specs.Limits.{AreLimits};
 ghost use Rattle.host_core.specs.World.{System, IsCovered, FoundIsOpen, new_system};
 ghost use Rattle.host_core.specs.Happens.{Happens, IsPromised, AllHappen, RunHappens, StepsHappen, SetHappens, UnmergeHappens, JoinHappens, SplitHappens};
 ghost use Rattle.host_core.specs.HostView.{StandsForSystem, IsCopied, event_of, reply_of};
-ghost use Rattle.host_core.specs.Many.{HaveRun};
+ghost use Rattle.host_core.specs.Many.{HaveRun, ended_of, stopped_by};
 ghost use Rattle.host_core.specs.WholeRuns.{HaveRunFrom};
 ghost use Rattle.host_types.specs.declared.fault.Fault.TheVariants.{OutOfMemory};
 ghost use Rattle.host_types.specs.declared.event.Event.TheVariants.{CreateMap, Load, Begin, HostUpdate, HostLookup, Unload, DropMap, Visit};
 ghost use Rattle.host_core.specs.declared.reply.Reply.{Reply as KnownReply};
 
-use crate::reply::Reply;
+use crate::reply::{Reply, Stopped};
 use crate::tenant::Tenant;
 use crate::tenant_event::TenantEvent;
 use host_calls::{host_set, host_unmerge};
@@ -188,7 +188,7 @@ impl Host {
     }
 
     /// Makes a whole run of a tenant's loaded program on each of some contexts, which have one size and stand one after the other, as `run`
-    /// does, and writes what each returns. It stops at the first that doesn't end, whose reply it gives.
+    /// does, and writes what each returns. It stops at the first that doesn't end.
     pub fn run_many(
         &mut self,
         tenant: u32,
@@ -196,22 +196,19 @@ impl Host {
         contexts: &[u8],
         size: usize,
         rets: &mut [u64],
-    ) -> Option<Reply>
+    ) -> Result<(), Stopped>
         requires { size * length rets.old ≡ length contexts.now }
-        ensures { (n : ℕ) × HaveRun tenant program contexts.now size rets.old rets.new n result self.old self.new }
+        ensures { HaveRun tenant program contexts.now size rets.old rets.new (ended_of (length rets.old) result) (stopped_by result) self.old self.new }
     {
         let mut done = 0;
         // Most programs ask for no update or deletion: then all runs are made at once.
         while done < rets.len() {
-            match self.run_from(tenant, program, contexts, size, rets, done) {
-                Ok(ended) => done = ended,
-                Err(stopped) => return Some(stopped),
-            }
+            done = self.run_from(tenant, program, contexts, size, rets, done)?;
         }
-        None
+        Ok(())
     }
 
-    /// Makes such runs from the context with a number on: how many contexts are done then, or the reply to the first run that doesn't end.
+    /// Makes such runs from the context with a number on: how many contexts are done then, or which run didn't end.
     #[inline(always)]
     fn run_from(
         &mut self,
@@ -221,7 +218,7 @@ impl Host {
         size: usize,
         rets: &mut [u64],
         from: usize,
-    ) -> Result<usize, Reply>
+    ) -> Result<usize, Stopped>
         requires sized { size * length rets.old ≡ length contexts.now }
         requires from { from < length rets.old }
         ensures { HaveRunFrom tenant program contexts.now size rets.old from result self.old self.new rets.new }
@@ -229,7 +226,7 @@ impl Host {
         self.memory.facts();
         let index = tenant as usize;
         if index >= self.tenants.len() {
-            return Err(Reply::Refused(Fault::BadTenant));
+            return Err(Stopped::refused(from, Fault::BadTenant));
         }
         self.tenants[index].run_from(
             &mut self.memory,

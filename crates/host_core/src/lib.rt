@@ -11,4 +11,4 @@ mod whole_run;
 
 pub use host::{Host, each_state_begins, into_reply, lists_join};
 pub use host_types::{Bytes, Event};
-pub use reply::Reply;
+pub use reply::{Reply, Stopped};

@@ -24,3 +24,27 @@ pub enum Reply {
     /// The event was refused, and changed nothing.
     Refused(Fault),
 }
+
+/// The run that stopped runs on one context after the other, since it didn't end.
+#[derive(PartialEq, Eq, Drop)]
+pub struct Stopped {
+    /// How many runs ended before it.
+    pub ended: usize,
+    /// The reply to it.
+    pub reply: Reply,
+}
+
+impl Stopped {
+    ghost use Rattle.std.specs.Prelude.{◌≡◌};
+    ghost use Rattle.host_core.specs.declared.reply.Reply.TheVariants.{Refused as IsRefused};
+
+    /// The next run after so many was refused.
+    pub(crate) fn refused(ended: usize, fault: Fault) -> Stopped
+        ensures { result ≡ record { ended = ended; reply = IsRefused fault } }
+    {
+        Stopped {
+            ended,
+            reply: Reply::Refused(fault),
+        }
+    }
+}

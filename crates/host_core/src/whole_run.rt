@@ -2,7 +2,7 @@
 ghost use Rattle.std.specs.Prelude.{◌≡◌, ◌≤◌, ◌<◌, ◌+◌, ◌*◌, Some};
 
 use crate::open_run::{ALL_STEPS, LOOP_OF_MANY, LOOP_OF_ONE};
-use crate::reply::Reply;
+use crate::reply::{Reply, Stopped};
 use crate::tenant::{OpenRun, Tenant, program_of};
 use host_types::Fault;
 use page_table::Memory;
@@ -16,8 +16,8 @@ pub(crate) enum Stop {
     AllEnded,
     /// The run on the context with this number asked for an update or a deletion, and goes on.
     Open(usize),
-    /// The next run wasn't begun.
-    Refused(Fault),
+    /// The run on the context with this number wasn't begun.
+    Refused(usize, Fault),
 }
 
 impl OpenRun {
@@ -74,7 +74,7 @@ impl OpenRun {
             match self.make_run::<LOOP_OF_MANY>(program, memory, number, &contexts[at..at + size]) {
                 Ok(Some(ret)) => rets[index] = ret,
                 Ok(None) => return Stop::Open(index),
-                Err(fault) => return Stop::Refused(fault),
+                Err(fault) => return Stop::Refused(index, fault),
             }
         }
         Stop::AllEnded
@@ -121,8 +121,8 @@ impl Tenant {
     }
 
     /// Makes whole runs of a program on one context after the other, from the one with a number on, and writes what each returns: how many
-    /// contexts are done then, or the reply to the first run that doesn't end. It goes no further than a run that asks for an update or
-    /// a deletion, since that one is noted as open.
+    /// contexts are done then, or which run didn't end. It goes no further than a run that asks for an update or a deletion, since that one
+    /// is noted as open.
     #[inline(always)]
     pub(crate) fn run_from(
         &mut self,
@@ -133,7 +133,7 @@ impl Tenant {
         size: usize,
         rets: &mut [u64],
         from: usize,
-    ) -> Result<usize, Reply>
+    ) -> Result<usize, Stopped>
         requires sized { size * length rets.old ≡ length contexts.now }
         requires from { from < length rets.old }
         requires kept { IsKept number self.old memory.old }
@@ -141,10 +141,10 @@ impl Tenant {
     {
         memory.facts();
         if self.run.is_open {
-            return Err(Reply::Refused(Fault::Busy));
+            return Err(Stopped::refused(from, Fault::Busy));
         }
         let Some(verified) = program_of(self.programs.as_slice(), program) else {
-            return Err(Reply::Refused(Fault::NoProgram));
+            return Err(Stopped::refused(from, Fault::NoProgram));
         };
         let open = &mut self.run.latest;
         open.program = program;
@@ -159,10 +159,13 @@ impl Tenant {
                         rets[index] = ret;
                         Ok(index + 1)
                     }
-                    last => Err(last),
+                    reply => Err(Stopped {
+                        ended: index,
+                        reply,
+                    }),
                 }
             }
-            Stop::Refused(fault) => Err(Reply::Refused(fault)),
+            Stop::Refused(index, fault) => Err(Stopped::refused(index, fault)),
         }
     }
 

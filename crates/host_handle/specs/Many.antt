@@ -17,10 +17,10 @@ abbrev pub stop_written : Option Reply → BpfHostRefused → BpfHostRefused
 stop_written None old = old
 stop_written (Some reply) old = refused_written (Replied reply) old
 
--- What the call answers: a closed handle stays closed, and nothing is written.
-abbrev pub AnswersMany : ℕ → ℕ → List ℕ → ℕ → List ℕ → List ℕ → BpfHostRefused → BpfHostRefused → ℕ → Option HostView → Option HostView → Type 0
-AnswersMany t k contexts size rets written refused shown code None None = (code ≡ 100) × (written ≡ rets) × (shown ≡ refused)
-AnswersMany t k contexts size rets written refused shown code (Some old) (Some new) =
-    (n : ℕ) × ((stopped : Option Reply) × (code ≡ stop_code stopped) × (shown ≡ stop_written stopped refused)
-    × HaveRun t k contexts size rets written n stopped old new)
-AnswersMany t k contexts size rets written refused shown code old new = ⊥
+-- What the call answers, and how many runs it made: a closed handle stays closed, and none was made.
+abbrev pub AnswersMany : ℕ → ℕ → List ℕ → ℕ → List ℕ → List ℕ → ℕ → BpfHostRefused → BpfHostRefused → ℕ → Option HostView → Option HostView → Type 0
+AnswersMany t k contexts size rets written made refused shown code None None = (code ≡ 100) × (written ≡ rets) × (made ≡ 0) × (shown ≡ refused)
+AnswersMany t k contexts size rets written made refused shown code (Some old) (Some new) =
+    (stopped : Option Reply) × (code ≡ stop_code stopped) × (shown ≡ stop_written stopped refused)
+    × HaveRun t k contexts size rets written made stopped old new
+AnswersMany t k contexts size rets written made refused shown code old new = ⊥

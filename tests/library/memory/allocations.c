@@ -205,11 +205,12 @@ static void runs_take_no_memory(void)
     for (unsigned round = 0; round < 9; round++) {
         struct bpf_host_run run = {0, 0};
         uint64_t rets[4] = {0};
+        size_t made = 0;
         left_until_refused = round > 0;
         wanted(bpf_host_run(&host, 0, 0, context, 64, &run, &refused) == 0 && run.ret == 42, "another run of 64 bytes");
         context[0] = (uint8_t)(round + 1), context[8] = 5;
         wanted(bpf_host_run(&host, 0, 1, context, 8, &run, &refused) == 0 && run.ret == round + 1 && run.steps == 12, "another run with an update");
-        wanted(bpf_host_run_many(&host, 0, 1, context, 32, rets, 4, &refused) == 0, "refused runs with updates");
+        wanted(bpf_host_run_many(&host, 0, 1, context, 32, rets, 4, &made, &refused) == 0 && made == 4, "refused runs with updates");
         wanted(rets[0] == round + 1 && rets[1] == 5, "other runs with updates");
         wanted(left_until_refused == (round > 0), "a later run takes memory");
     }

@@ -60,9 +60,10 @@ static void run(void)
     static const uint8_t context[64];
     struct bpf_host_run ended = {0, 0};
     uint64_t rets[2];
+    size_t made;
     CHECK(bpf_host_run(&host, 0, 0, context, 64, &ended, &refused), 0);
     CHECK(bpf_host_run(&host, 0, 1, context, 0, &ended, &refused), 0);
-    CHECK(bpf_host_run_many(&host, 0, 1, context, 0, rets, 2, &refused), 0);
+    CHECK(bpf_host_run_many(&host, 0, 1, context, 0, rets, 2, &made, &refused), 0);
     CHECK(rets[1], 3);
 }
 

@@ -1,7 +1,5 @@
 use Rattle.std.proofs.Common.{◌≤◌, length, set, subst, arith, Err}
 use Rattle.std.proofs.lemmas.Option.{slice_get_past}
-use Rattle.host_types.specs.declared.fault.Fault.TheVariants.{BadTenant}
-use Rattle.host_core.specs.declared.reply.Reply.TheVariants.{Refused}
 use Rattle.host_core.specs.HostView.{HostView}
 use Rattle.host_core.specs.WholeRuns.{HaveRunFrom}
 use Rattle.host_core.proofs.Hosting.{tenant_there, kept_in}
@@ -12,8 +10,9 @@ use Rattle.host_core.proofs.host.Host.run_from.Goals.{After-run_from}
 pub returns-then-index-len : goal.returns-then-index-len
 returns-then-index-len c =
     let past : length c.self.inside.tenants.items ≤ c.args.tenant = omega (arith, c.self.inside.tenants.ok.0) in
-    subst (λ view. HaveRunFrom c.args.tenant c.args.program c.args.contexts.now c.args.size c.args.rets.now c.args.from (Err (Refused BadTenant)) view view c.args.rets.now) c.self.view_is
-    (host-runs_nobody c.self.inside.tenants.items c.self.inside.memory c.args.tenant c.args.program c.args.contexts.now c.args.size c.args.rets.now c.args.from c.requires.from c.facts.ensures (slice_get_past _ _ past))
+    subst (λ view. HaveRunFrom c.args.tenant c.args.program c.args.contexts.now c.args.size c.args.rets.now c.args.from (Err c.refused.result) view view c.args.rets.now) c.self.view_is
+    (rw c.refused.ensures
+    (host-runs_nobody c.self.inside.tenants.items c.self.inside.memory c.args.tenant c.args.program c.args.contexts.now c.args.size c.args.rets.now c.args.from c.requires.from c.facts.ensures (slice_get_past _ _ past)))
 
 pub run_from-requires-clause-kept : goal.run_from-requires-clause-kept
 run_from-requires-clause-kept c = kept_in c.self.inside.tenants.items c.self.inside.memory c.args.tenant c.index_mut.result.now c.self.invariant (omega (arith, c.self.inside.tenants.ok.0)) c.index_mut.ensures.value

@@ -1,4 +1,5 @@
 use Rattle.std.proofs.Common.{◌≡◌, ◌≤◌, length, refl, ◌∙◌, sym, arith}
+use Rattle.std.proofs.lemmas.Result.{err_from_is_err_and}
 use Rattle.host_core.proofs.WholeRuns.{later_same}
 use Rattle.host_core.proofs.host.Host.run_many.Goals as goal
 
@@ -10,13 +11,13 @@ run_from-requires-clause-sized c = rw c.loop-done.invariant.long c.requires
 
 pub loop-done-smaller : goal.loop-done-smaller
 loop-done-smaller c =
-    let made = c.in-Ok.ensures in
+    let made = c.in_ok-done.ensures in
     let (is, further, most) = made.ends in
     omega (arith, is, further, most, c.loop-done.invariant.long, c.loop-done-test.true)
 
 pub loop-done-preserved : goal.loop-done-preserved
 loop-done-preserved c =
-    let made = c.in-Ok.ensures in
+    let made = c.in_ok-done.ensures in
     let (is, further, most) = made.ends in
     let long = c.loop-done.invariant.long in
     let up : c.loop-done.done ≤ made.n = omega (arith, further) in
@@ -33,31 +34,30 @@ loop-done-preserved c =
 
 pub returns : goal.returns
 returns c =
-    let all : c.loop-done.done ≡ length c.args.rets.now = omega (arith, c.loop-done.invariant.within, c.loop-done.invariant.long, c.loop-done-test.false) in (
-      c.loop-done.done,
-      record {
-        made = all;
-        long = c.loop-done.invariant.long;
-        others = c.loop-done.invariant.others;
-        runs = λ x stands.
-            let (between, there, first) = c.loop-done.invariant.runs x stands in
-            (between, there, (between, first, refl));
-      },
-    )
+    let all : c.loop-done.done ≡ length c.args.rets.now = omega (arith, c.loop-done.invariant.within, c.loop-done.invariant.long, c.loop-done-test.false) in
+    rw (← all)
+    (record {
+      made = all;
+      long = c.loop-done.invariant.long;
+      others = c.loop-done.invariant.others;
+      runs = λ x stands.
+          let (between, there, first) = c.loop-done.invariant.runs x stands in
+          (between, there, (between, first, refl));
+    })
 
-pub returns-in-Err : goal.returns-in-Err
-returns-in-Err c =
-    let made = c.in-Err.ensures in
+pub returns-in_err-done : goal.returns-in_err-done
+returns-in_err-done c =
+    let made = c.in_err-done.ensures in
     let long = c.loop-done.invariant.long in
-    let (further, less) = made.ends in (
-      made.n,
-      record {
-        made = omega (arith, less, long);
-        long = made.long ∙ long;
-        others = made.others ∙ later_same c.loop-done.rets c.args.rets.now c.loop-done.done made.n further c.loop-done.invariant.others;
-        runs = λ x stands.
-            let (between, there, first) = c.loop-done.invariant.runs x stands in
-            let (next, stands', happen) = made.runs between there in
-            (next, stands', happen x first);
-      },
-    )
+    let (is, further, less) = made.ends in
+    let (stopped, at, same) = err_from_is_err_and c.from_residual.result c.from_residual.ensures.1 in
+    rw (at, same, ← is)
+    (record {
+      made = omega (arith, less, long);
+      long = made.long ∙ long;
+      others = made.others ∙ later_same c.loop-done.rets c.args.rets.now c.loop-done.done made.n further c.loop-done.invariant.others;
+      runs = λ x stands.
+          let (between, there, first) = c.loop-done.invariant.runs x stands in
+          let (next, stands', happen) = made.runs between there in
+          (next, stands', happen x first);
+    })

@@ -2,9 +2,8 @@ use Rattle.std.proofs.Common.{◌≡◌, ◌≤◌, ℕ, ◌+◌, List, Option, 
 use Rattle.host_types.specs.Pins.{released}
 use Rattle.bpf_decode.specs.Text.{instructions_of}
 use Rattle.verifier.specs.Verified.{Accepted}
-use Rattle.admission.specs.Reserve.{needed_from}
 use Rattle.interp.specs.declared.need.Need.{Need}
-use Rattle.interp.specs.declared.need.Need.TheVariants.{Private, Ended, Update, Delete}
+use Rattle.interp.specs.declared.need.Need.TheVariants.{Ended, Update, Delete}
 use Rattle.interp.specs.Machine.{MachineState}
 use Rattle.interp.specs.OnMaps.{FollowsOn}
 use Rattle.page_table.specs.Changes.{OtherTenantsUnchanged}
@@ -12,9 +11,9 @@ use Rattle.page_table.specs.State.{MemoryState, part}
 use Rattle.tenant_runs.specs.Fulfilment.{KeepsSizes}
 use Rattle.tenant_runs.specs.Storing.{maps_of_part, HasStoreFrames, HasStored}
 use Rattle.tenant_runs.proofs.OnMaps.{Keeps}
-use Rattle.tenant_runs.proofs.Rooms.{record_keeps, ended_keeps, keeps_twice}
+use Rattle.tenant_runs.proofs.Rooms.{ended_keeps, keeps_twice}
 use Rattle.host_core.specs.Batches.{IsUnderWayAt, on_context}
-use Rattle.host_core.proofs.Advances.{IsStarted, stands_at, kept_on, private_room, private_advanced, ended_advanced, asked_advanced, asked_at, asking_at, asks_to_change}
+use Rattle.host_core.proofs.Advances.{IsStarted, stands_at, kept_on, ended_advanced, asked_advanced, asked_at, asking_at, asks_to_change}
 use Rattle.host_core.proofs.tenant.OpenRun.finish_started.Given.{Over}
 use Rattle.host_core.proofs.tenant.OpenRun.finish_started.Goals as goal
 use Rattle.host_core.proofs.tenant.OpenRun.finish_started.Goals.{After-finish_on}

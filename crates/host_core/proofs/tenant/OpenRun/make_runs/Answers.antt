@@ -106,6 +106,6 @@ returns-in-Err c = record {
         long = c.loop-index.invariant.long;
         others = c.loop-index.invariant.others;
         runs = c.loop-index.invariant.runs programs rests;
-        last = (c.loop-index-test.true, came_to at programs rests (Err c.in-Err.fault) c.in-Err.is);
+        last = (refl, c.loop-index-test.true, came_to at programs rests (Err c.in-Err.fault) c.in-Err.is);
       };
 }

@@ -4,8 +4,8 @@ use Rattle.host_types.specs.declared.event.Event.TheVariants.{Begin}
 use Rattle.verifier.specs.Verified.{Accepted}
 use Rattle.page_table.specs.State.{MemoryState}
 use Rattle.host_core.specs.declared.tenant.OpenRun.{OpenRun as KeptRun}
-use Rattle.host_core.specs.declared.reply.Reply.{Reply}
 use Rattle.host_core.specs.declared.reply.Reply.TheVariants.{Ended, Refused}
+use Rattle.host_core.specs.declared.reply.Stopped.{Stopped}
 use Rattle.host_core.specs.declared.whole_run.Stop.{Stop}
 use Rattle.host_core.specs.declared.whole_run.Stop.TheVariants as stop
 use Rattle.host_core.specs.HostView.{TenantView, IsServed, IsKept, HasMadeSteps}
@@ -22,9 +22,10 @@ returns-then-self c =
     let seen : ◌≡◌ {A = TenantView} (record { programs = c.self-inside.inside.0.0; run = Some c.self-inside.inside.0.1.0.latest }) c.args.self.now = search rules in
     let busy : is_some c.args.self.now.run ≡ true = sym (ap (λ (kept : TenantView). is_some kept.run) seen) in
     let context = context_at c.args.contexts.now c.args.size c.args.from in
-    none-made c.args.number c.args.program c.args.contexts.now c.args.size c.args.rets.now c.args.from c.args.self.now c.args.self.now c.args.memory.now c.args.memory.now (Refused Busy) c.requires.from (λ ret steps e. cc)
+    rw c.refused.ensures
+    (none-made c.args.number c.args.program c.args.contexts.now c.args.size c.args.rets.now c.args.from c.args.self.now c.args.self.now c.args.memory.now c.args.memory.now (Refused Busy) c.requires.from (λ ret steps e. cc)
     (run-refused c.args.number c.args.program context c.args.self.now c.args.self.now c.args.memory.now c.args.memory.now (Refused Busy) c.facts.ensures
-    (begin-busy c.args.number c.args.program c.args.self.now c.args.memory.now context busy) (λ e. cc))
+    (begin-busy c.args.number c.args.program c.args.self.now c.args.memory.now context busy) (λ e. cc)))
 
 pub returns-in_default : goal.returns-in_default
 returns-in_default c =
@@ -34,8 +35,9 @@ returns-in_default c =
     let missing : accepted_at kept c.args.program ≡ None = lent-at kept c.as_slice.result.now c.args.program c.as_slice.ensures c.program_of.ensures ∙ ap option_copied c.in_default.is in
     let served = subst (λ seen. IsServed c.args.number seen c.args.memory.now (Begin c.args.number c.args.program context) (Refused NoProgram) seen c.args.memory.now) inside
     (begin-no_program c.args.number c.args.program kept c.args.memory.now context refl missing) in
-    none-made c.args.number c.args.program c.args.contexts.now c.args.size c.args.rets.now c.args.from c.args.self.now c.args.self.now c.args.memory.now c.args.memory.now (Refused NoProgram) c.requires.from (λ ret steps e. cc)
-    (run-refused c.args.number c.args.program context c.args.self.now c.args.self.now c.args.memory.now c.args.memory.now (Refused NoProgram) c.facts.ensures served (λ e. cc))
+    rw c.refused-in_default.ensures
+    (none-made c.args.number c.args.program c.args.contexts.now c.args.size c.args.rets.now c.args.from c.args.self.now c.args.self.now c.args.memory.now c.args.memory.now (Refused NoProgram) c.requires.from (λ ret steps e. cc)
+    (run-refused c.args.number c.args.program context c.args.self.now c.args.self.now c.args.memory.now c.args.memory.now (Refused NoProgram) c.facts.ensures served (λ e. cc)))
 
 module _ (c : In-Some) where
   -- the tenant as it is seen, without an open run
@@ -70,14 +72,14 @@ module _ (c : After-steps-steps) where
   left = ap (λ n. 4294967296 - n) c.steps-steps.ensures
 
   -- the tenant as it was found
-  seen_as : (result : Result ℕ Reply) (new : TenantView) (later : MemoryState) (written : List ℕ)
+  seen_as : (result : Result ℕ Stopped) (new : TenantView) (later : MemoryState) (written : List ℕ)
       → HasMadeRuns c.args.number (idle_tenant programs) c.args.memory.now c.args.program c.args.contexts.now c.args.size c.args.rets.now c.args.from result new later written
       → HasMadeRuns c.args.number c.args.self.now c.args.memory.now c.args.program c.args.contexts.now c.args.size c.args.rets.now c.args.from result new later written
   seen_as result new later written made =
       subst (λ old. HasMadeRuns c.args.number old c.args.memory.now c.args.program c.args.contexts.now c.args.size c.args.rets.now c.args.from result new later written) (inside (goal.at.After-steps-steps c).In-Some) made
 
   -- without an open run it is as it was
-  closed : (result : Result ℕ Reply) (written : List ℕ)
+  closed : (result : Result ℕ Stopped) (written : List ℕ)
       → HasMadeRuns c.args.number (idle_tenant programs) c.args.memory.now c.args.program c.args.contexts.now c.args.size c.args.rets.now c.args.from result (idle_tenant programs) c.make_runs-stop.new.memory written
       → HasMadeRuns c.args.number c.args.self.now c.args.memory.now c.args.program c.args.contexts.now c.args.size c.args.rets.now c.args.from result (record { programs = programs; run = if c.self-inside.inside.0.1.0.is_open then Some after else None }) c.make_runs-stop.new.memory written
   closed result written made =
@@ -94,8 +96,10 @@ returns-in-AllEnded c =
 pub returns-in-Refused : goal.returns-in-Refused
 returns-in-Refused c =
     let at = (goal.at.returns-in-Refused c).After-steps-steps in
-    closed at (Err (Refused c.in-Refused.fault)) c.make_runs-stop.new.rets
-    (refused-made (programs at) c.args.number c.args.program c.args.contexts.now c.args.size c.args.rets.now c.args.from c.args.memory.now (after at) c.make_runs-stop.new.memory c.make_runs-stop.new.rets c.in-Refused.fault (stops at (stop.Refused c.in-Refused.fault) c.in-Refused.is))
+    let is : c.refused-in-Refused.result ≡ (record { ended = c.in-Refused.index; reply = Refused c.in-Refused.fault }) = c.refused-in-Refused.ensures in
+    closed at (Err c.refused-in-Refused.result) c.make_runs-stop.new.rets
+    (rw is
+    (refused-made (programs at) c.args.number c.args.program c.args.contexts.now c.args.size c.args.rets.now c.args.from c.args.memory.now (after at) c.make_runs-stop.new.memory c.make_runs-stop.new.rets c.in-Refused.index c.in-Refused.fault (stops at (stop.Refused c.in-Refused.index c.in-Refused.fault) c.in-Refused.is)))
 
 pub make_last_steps-requires-clause-kept : goal.make_last_steps-requires-clause-kept
 make_last_steps-requires-clause-kept c =
@@ -118,6 +122,6 @@ returns-in_default-make_last_steps c =
     let at = (goal.at.returns-in_default-make_last_steps c).After-steps-steps in
     let stopped = stops at (stop.Open c.in-Open.index) c.in-Open.is in
     let rest = subst (λ n. HasMadeSteps c.args.number (busy_tenant (programs at) (after at)) c.make_runs-stop.new.memory n (Some c.make_last_steps.result) c.make_last_steps.new.self c.make_last_steps.new.memory) (ap (λ n. 4294967296 - n) c.from.ensures ∙ left at) c.make_last_steps.ensures in
-    seen_as at (Err c.make_last_steps.result) c.make_last_steps.new.self c.make_last_steps.new.memory c.make_runs-stop.new.rets
+    seen_as at (Err (record { ended = c.in-Open.index; reply = c.make_last_steps.result })) c.make_last_steps.new.self c.make_last_steps.new.memory c.make_runs-stop.new.rets
     (open-stopped (programs at) c.args.number c.args.program c.args.contexts.now c.args.size c.args.rets.now c.args.from c.args.memory.now (after at) c.make_runs-stop.new.memory c.make_runs-stop.new.rets c.in-Open.index stopped c.make_last_steps.new.self c.make_last_steps.new.memory c.make_last_steps.result
     (λ ret steps is. c.in_default-make_last_steps.not-Ended ret steps is) rest)
