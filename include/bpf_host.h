@@ -1,5 +1,5 @@
-/* An embeddable host of eBPF programs: 1 to 16 tenants, each with its own maps, its own verified programs and at most one open
- * run, in a memory whose pages are merged: no run and no value reveals this, but NO_FRAMES and the counters depend on it. Each call does what
+/* An embeddable host of eBPF programs: 1 to 16 tenants, from 0 on, each with its own maps, its own verified programs and at most one open run, in a
+ * memory whose pages are merged: what a run returns and what a map holds don't depend on that, NO_FRAMES and the counters do. Each call does what
  * docs/HOST.md says of its event.
  *
  *     struct bpf_host host = {0};
@@ -15,39 +15,39 @@
  * WHAT A CALL RETURNS. BPF_HOST_DONE, which is 0, or a refusal; bpf_host_code_name returns its name. Each call lists its refusals without BPF_HOST_,
  * in the order in which they are tested; docs/HOST.md says when 31 to 45 are returned.
  *     a rule           1 to 25: the program breaks this rule of the verifier, at the slot `refused->slot`
- *     NO_FRAMES        more frames are needed than are available: `refused->need` and `refused->have`. Never where the host has two frames
- *                      for each page of its maps, a map to be made included, and two more
+ *     NO_FRAMES        more frames are needed than are available: `refused->need` and `refused->have`. Never if the host has 2 * P + 2 frames or
+ *                      more, P being the pages of all its maps, and of the one that is to be made
  *     OUT_OF_MEMORY    no other refusal applies; but bpf_host_load returns it before 11 to 25 if there is no memory to verify the text,
  *                      and bpf_host_read_object before 103 and a rule; bpf_host_lower and bpf_host_replace before what they list after it
  *     CLOSED           the handle is closed
  *     OPEN_ALREADY     the handle is already open (bpf_host_new)
- *     WRONG_LENGTH     the buffer's length isn't the value's (bpf_host_lookup), or it is too short (bpf_host_lower, bpf_host_explain), or the
- *                      contexts can't all have the same size (bpf_host_run_many), or an object has a length greater than its array's
- *                      (bpf_host_load_object)
+ *     WRONG_LENGTH     the buffer's length isn't the value's (bpf_host_lookup; bpf_host_update returns BAD_SHAPE), or it is too short
+ *                      (bpf_host_lower, bpf_host_explain), or the contexts can't all have the same size (bpf_host_run_many), or an object has a
+ *                      length greater than its array's (bpf_host_load_object)
  *     BAD_OBJECT       the object file isn't accepted: `object->why` says why (bpf_host_read_object)
  *     HAS_MAPS         the tenant already has a map (bpf_host_load_object)
- * bpf_host_lookup and bpf_host_update allocate no memory, and bpf_host_begin and _run only if the context is longer than those of the
+ * bpf_host_lookup and bpf_host_update allocate no memory, and bpf_host_begin, _run and _run_many only if the context is longer than those of the
  * tenant's earlier runs.
- * A call that doesn't return 0 changed nothing, neither the host nor what the caller's pointers point to, except the members of
+ * A call that doesn't return 0 began no run and changed nothing, neither the host nor what the caller's pointers point to, except the members of
  * `*refused` that the number concerns (slot; need and have), `*written` if a buffer is too short, `object->why`, the runs that bpf_host_run_many
- * made before the refusal and their number, and the maps that bpf_host_load_object made, which it drops.
+ * made before the refusal and their number, and a map that bpf_host_load_object made and couldn't drop.
  *
  * A call that was refused may be repeated, after NO_FRAMES when runs have ended or visits have merged pages, after OUT_OF_MEMORY when there is
- * memory; bpf_host_run_many with the contexts for which no run was made.
+ * memory; bpf_host_run_many with the contexts for which no run was made. How many frames a run needs doesn't depend on its context.
  *
  * LIMITS. A host has 2 to 4096 frames of 4096 bytes and 1 to 16 tenants; a tenant at most 8 maps, 8 loaded programs and one open run. A map has 1 to
  * 65536 values of 1 to 4096 bytes, on at most 256 pages (1 MiB): a value takes a multiple of 8 bytes there. A program has 1 to 4096 slots of 8 bytes
  * and makes at most 4096 steps a run. A context has 0 to 256 bytes, a multiple of 8. An object file has at most 16 MiB.
  *
  * WHAT THE CALLER MUST ENSURE AT EACH CALL. No proof covers it.
- *   - No pointer is null, and each points to an initialized object of its type: a `struct bpf_host` starts as all zeros, and a `bool` is
- *     true or false. An empty buffer needs a pointer that isn't null, too.
- *   - No two pointers of one call point to the same bytes, except those that are `const`. Until the call returns, nobody else writes to
+ *   - No pointer is null, and each points to an initialized object of its type, also if the call only writes it: a `struct bpf_host` starts as
+ *     all zeros, and a `bool` is true or false. An empty buffer needs a pointer that isn't null, too. Buffers of bytes need no alignment.
+ *   - No two pointers of one call point to the same bytes, unless both are `const`. Until the call returns, nobody else writes to
  *     these bytes: bpf_host_run reads a context where it is.
- *   - The members of a `struct bpf_host` belong to the library: the caller neither reads nor writes them, and never uses a
- *     copy of an open handle.
- *   - At most one call at a time uses a handle. Another thread may continue with it after a lock, the start or join of a thread, or a
- *     sequentially consistent atomic, any of which orders the calls of one thread before those of the other.
+ *   - The members of a `struct bpf_host` belong to the library: the caller neither reads nor writes them. An open handle may move to another
+ *     place in memory, but only one copy is used from then on.
+ *   - At most one call at a time uses a handle. Another thread may continue with it after whatever makes the calls of one thread happen before those
+ *     of the other: a lock, the start or join of a thread, an atomic that releases and acquires.
  *     Each call writes to its handle: handles that several threads use are faster in different lines of the cache.
  *   - No call is made from a signal handler, or from the child of a process that had several threads when it forked.
  *   - malloc, realloc and free are the C library's, or others that align as it does, up to 16.
@@ -75,7 +75,7 @@ struct bpf_host {
 
 /* The options of the scanner, by the names of Linux's KSM. */
 struct bpf_host_options {
-    uint32_t pages_to_scan;    /* 1 to 100000; bpf_host_visit takes its own number */
+    uint32_t pages_to_scan;    /* 1 to 100000: for the scanner of `bpf_host serve`; bpf_host_visit takes its own number */
     uint32_t run;              /* 0: the scanner is stopped; 1: it visits */
     uint32_t use_zero_pages;   /* 1: pages of zeros share one frame */
     uint32_t max_page_sharing; /* how many pages may share a frame, 2 to 65535 */
@@ -146,7 +146,7 @@ struct bpf_host_refused {
 
 /* What a run returned, and how many steps it took. */
 struct bpf_host_run {
-    uint64_t ret;
+    uint64_t ret; /* R0: of a C function that returns `int` only the lower 32 bits are the number */
     uint32_t steps;
 };
 
@@ -156,8 +156,8 @@ struct bpf_host_shape {
     uint32_t entries;
 };
 
-/* A map of an object file: one that it defines, or that holds its global variables. All values begin as zeros, except value 0, which
- * begins as the bytes of `first` if `first_len` is a value's size, and not 0. */
+/* A map of an object file: one that it defines, or that holds its global variables. All values begin as zeros, except value 0, which begins as the
+ * bytes of `first`, unless `first_len` is 0. It is 0 or a value's size. */
 struct bpf_host_object_map {
     struct bpf_host_shape shape;
     uint32_t first_len;
@@ -224,9 +224,9 @@ uint32_t bpf_host_run(struct bpf_host *host, uint32_t tenant, uint32_t program, 
                       struct bpf_host_run *run, struct bpf_host_refused *refused);
 
 /* Runs a program once for each of `rets_len` contexts of one size, stored one after the other, and writes what each run returns: short runs take
- * less time this way than with one call each. It stops at the first refusal. `*made` is written in any case: how many runs were made, which are the
- * first ones; the other members of `rets` are unchanged. Refused: WRONG_LENGTH if the contexts can't all have the same size, and what bpf_host_run
- * refuses. */
+ * less time this way than with one call each. It stops at the first refusal. `*made` is written in any case: how many runs were made, all if it
+ * returns 0, and else the first ones; the other members of `rets` are unchanged. Refused: WRONG_LENGTH if the contexts can't all have the same
+ * size, and what bpf_host_run refuses, but nothing besides that and CLOSED if `rets_len` is 0. */
 uint32_t bpf_host_run_many(struct bpf_host *host, uint32_t tenant, uint32_t program, const uint8_t *contexts, size_t contexts_len, uint64_t *rets,
                            size_t rets_len, size_t *made, struct bpf_host_refused *refused);
 
@@ -242,7 +242,7 @@ uint32_t bpf_host_step(struct bpf_host *host, uint32_t tenant, uint64_t steps, b
 /* Copies a value of a map to a buffer of exactly its size. Refused: CLOSED, BAD_TENANT, NO_MAP, NO_ELEMENT, WRONG_LENGTH. */
 uint32_t bpf_host_lookup(struct bpf_host *host, uint32_t tenant, uint32_t map, uint32_t key, uint8_t *value, size_t value_len);
 
-/* Writes a value of a map. Refused: CLOSED, BAD_TENANT, BUSY, NO_MAP, NO_ELEMENT, BAD_SHAPE, NO_FRAMES. */
+/* Writes a value of a map, from a buffer of exactly its size. Refused: CLOSED, BAD_TENANT, BUSY, NO_MAP, NO_ELEMENT, BAD_SHAPE, NO_FRAMES. */
 uint32_t bpf_host_update(struct bpf_host *host, uint32_t tenant, uint32_t map, uint32_t key, const uint8_t *value, size_t value_len,
                          struct bpf_host_refused *refused);
 
@@ -283,9 +283,10 @@ uint32_t bpf_host_explain(const uint8_t *text, size_t text_len, const struct bpf
 /* CALLS FOR AN OBJECT FILE, as made by `clang -g -O2 -target bpf -c`. */
 
 /* Reads an object file, makes one text of the function that `name` selects (its own name, or that of its section; if empty, the only function) and
- * of those that it calls, lowers it as bpf_host_lower does, and writes the text that the verifier accepts, and its maps. No handle is needed. A
- * rule's slot is that of the text before lowering. Refused: BAD_CONTEXT, BAD_OBJECT, a rule, OUT_OF_MEMORY; then `object->why` has the words of
- * the program `bpf_object`, and nothing else in `*object` changed. */
+ * of those that it calls, lowers it as bpf_host_lower does, and writes the text that the verifier accepts, and its maps. No handle is needed, and
+ * several threads may call it at the same time. Refused: BAD_CONTEXT, BAD_OBJECT, a rule, OUT_OF_MEMORY; then `object->why` has the words of the
+ * program `bpf_object`, with the instruction and its line of C (a rule's slot is that of the text before lowering), and nothing else in `*object`
+ * changed. */
 uint32_t bpf_host_read_object(const uint8_t *file, size_t file_len, const char *name, size_t name_len, uint32_t context_size,
                               struct bpf_host_object *object, struct bpf_host_refused *refused);
 
@@ -310,9 +311,9 @@ static inline bool bpf_host_same_maps(const struct bpf_host_object *one, const s
     return same;
 }
 
-/* Replaces the program with the number `*program` by that of an object with the same maps, which keep their values: it is loaded beside the old one,
- * then that is removed, and the new number is written. If it is refused, the old program stays. Refused: WRONG_LENGTH if the text's length exceeds
- * its array, what bpf_host_load refuses, and then NO_PROGRAM. */
+/* Replaces the program with the number `*program` by that of an object with the same maps, which keep their values and aren't compared: it is loaded
+ * beside the old one, then that is removed, and the new number is written. If it is refused, the old program stays. Refused: WRONG_LENGTH if the
+ * text's length exceeds its array, what bpf_host_load refuses, and then NO_PROGRAM. */
 static inline uint32_t bpf_host_replace(struct bpf_host *host, uint32_t tenant, const struct bpf_host_object *object, uint32_t *program,
                                         struct bpf_host_refused *refused)
 {

@@ -2,6 +2,22 @@
 
 use std::ffi::c_void;
 
+/// The version of the header that these calls are of: BPF_HOST_VERSION.
+const VERSION: u32 = 5;
+
+// The size that the header gives.
+const _: () = assert!(std::mem::size_of::<Object>() == 67180);
+
+/// Panics if the library that was linked isn't that of this crate, since it would take other arguments.
+pub fn check_version() {
+    // SAFETY: the call takes nothing, and is in each version.
+    let linked = unsafe { bpf_host_version() };
+    assert!(
+        linked == VERSION,
+        "the linked library has version {linked}, and this crate needs version {VERSION}"
+    );
+}
+
 #[repr(C)]
 pub struct Handle {
     pub at: *mut c_void,
@@ -73,6 +89,7 @@ pub struct Counters {
 }
 
 extern "C" {
+    pub fn bpf_host_version() -> u32;
     pub fn bpf_host_new(
         frames: u32,
         tenants: u32,

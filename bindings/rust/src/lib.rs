@@ -1,7 +1,7 @@
 //! Runs eBPF programs of several tenants over array maps whose equal pages share memory.
 //!
 //! What the calls promise is proved, and stands in docs/PROMISES.md of the repository: an accepted program never faults, returns what
-//! RFC 9669 says, and keeps to its tenant's maps; no tenant sees what another one does.
+//! RFC 9669 says, and keeps to its tenant's maps; no tenant sees what another one does. This crate is tested, not proved.
 //!
 //! A [`Map`] and a [`Program`] belong to their [`Host`]: they can't outlive it, and can't be handed to another one.
 //!
@@ -28,9 +28,9 @@
 //! if next.maps == first.maps {
 //!     program = match program.replace(&next) {
 //!         Ok(replaced) => replaced,
-//!         Err((old, refused)) => {
-//!             eprintln!("{refused}");
-//!             old
+//!         Err(returned) => {
+//!             eprintln!("{}", returned.refused);
+//!             returned.value
 //!         }
 //!     };
 //! }
@@ -41,11 +41,11 @@
 //! A map is not used after its host is gone:
 //!
 //! ```compile_fail
-//! use bpf_host::{Host, Options};
+//! use bpf_host::{Host, Options, Shape};
 //!
 //! let map = {
 //!     let host = Host::new(2, 1, Options::default()).unwrap();
-//!     host.tenant(0).create_map(8, 1, true).unwrap()
+//!     host.tenant(0).create_map(Shape { value_size: 8, entries: 1 }, true).unwrap()
 //! };
 //! map.update(0, &[0; 8]).unwrap();
 //! ```
@@ -53,10 +53,10 @@
 //! nor after it was removed:
 //!
 //! ```compile_fail
-//! use bpf_host::{Host, Options};
+//! use bpf_host::{Host, Options, Shape};
 //!
 //! let host = Host::new(2, 1, Options::default()).unwrap();
-//! let map = host.tenant(0).create_map(8, 1, true).unwrap();
+//! let map = host.tenant(0).create_map(Shape { value_size: 8, entries: 1 }, true).unwrap();
 //! map.remove().unwrap();
 //! map.update(0, &[0; 8]).unwrap();
 //! ```
@@ -67,7 +67,7 @@
 //! use bpf_host::{Host, Options};
 //!
 //! let host = Host::new(2, 1, Options::default())?;
-//! let counters = std::thread::spawn(move || host.counters()).join().unwrap()?;
+//! let counters = std::thread::spawn(move || host.counters()).join().unwrap();
 //! assert_eq!(counters.frames_free, 1); // the other one is the zero frame
 //! # Ok::<(), bpf_host::Refused>(())
 //! ```
@@ -84,15 +84,21 @@
 //! });
 //! ```
 
+#![warn(missing_docs)]
+
 mod ffi;
 mod host;
+mod map;
 mod object;
+mod program;
 mod refused;
 mod tenant;
 mod text;
 
 pub use host::{Counters, Host, Options, Setting};
+pub use map::{Map, Shape};
 pub use object::{Object, ObjectMap, ObjectRefused};
-pub use refused::{Frames, Refused};
-pub use tenant::{Map, OpenRun, Program, Run, Shape, Tenant};
+pub use program::{Program, Run};
+pub use refused::{code, Frames, Refused, Returned};
+pub use tenant::Tenant;
 pub use text::{explain, lower, verify};

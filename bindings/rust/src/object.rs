@@ -1,13 +1,14 @@
 //! A program of an object file, as `clang -g -O2 -target bpf -c` makes it.
 
 use crate::ffi;
+use crate::map::Shape;
 use crate::refused::Refused;
-use crate::tenant::Shape;
 use std::fmt;
 
 /// A program of an object file, which the verifier accepts for the maps that the file has.
 #[derive(Clone, Debug, PartialEq, Eq)]
 pub struct Object {
+    /// The size of the contexts on which it runs.
     pub context_size: u32,
     /// The text, of functions that are copied into one and of loops that are unrolled.
     pub text: Vec<u8>,
@@ -18,28 +19,36 @@ pub struct Object {
 /// A map of an object file, one that it defines or that its global variables are in.
 #[derive(Clone, Debug, PartialEq, Eq)]
 pub struct ObjectMap {
+    /// Its name, at most 63 bytes of it.
     pub name: String,
+    /// Its shape.
     pub shape: Shape,
-    /// Value 0 at the start; no bytes where it is zeros.
+    /// Value 0 at the start, or nothing if that is zeros.
     pub first: Vec<u8>,
 }
 
 /// Why an object file has no program for this host.
 #[derive(Clone, Debug, PartialEq, Eq)]
+#[non_exhaustive]
 pub struct ObjectRefused {
+    /// The refusal. The slot is that of the text before it was lowered.
     pub refused: Refused,
     /// What the program `bpf_object` says, with the line of C.
     pub why: String,
 }
 
 impl Object {
-    /// Reads an object file. The name is that of a function, or of its section; where there is one function, it may be empty.
+    /// Reads an object file of at most 16 MiB. The name is that of a function, or of its section; if there is one function, it may be empty.
+    ///
+    /// # Errors
+    /// `BadContext`, `BadObject` of a file that isn't accepted, a rule of the verifier, and `OutOfMemory`.
     ///
     /// ```
     /// let refused = bpf_host::Object::read(b"no ELF", "", 0).unwrap_err();
     /// assert_eq!(refused.why, "this is no ELF file");
     /// ```
     pub fn read(file: &[u8], name: &str, context_size: u32) -> Result<Object, ObjectRefused> {
+        ffi::check_version();
         let mut read = Box::new(ffi::Object {
             context_size: 0,
             text_len: 0,

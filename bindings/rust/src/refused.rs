@@ -5,40 +5,103 @@ use std::fmt;
 
 /// A refusal: its number of docs/HOST.md, and what belongs to it. A refused call changed nothing, unless it says otherwise.
 #[derive(Clone, Copy, Debug, PartialEq, Eq)]
+#[non_exhaustive]
 pub struct Refused {
-    /// 1 to 25 are rules of the verifier, 31 to 45 refusals of the host, 102 is a length that no call takes, 103 an
-    /// object file that isn't taken, 104 a tenant that has maps before an object's are made.
+    /// One of [`code`].
     pub code: u32,
-    /// At 1 to 25, the slot of the instruction that breaks the rule.
+    /// If the code is that of a rule of the verifier, the slot of the instruction that breaks it.
     pub slot: Option<u32>,
-    /// At 31, how many frames are needed, and how many may be had.
+    /// If the code is [`code::NO_FRAMES`], how many frames are needed, and how many are available.
     pub frames: Option<Frames>,
+    /// How many runs [`Program::run_many`](crate::Program::run_many) made before it was refused. 0 for any other call.
+    pub made: usize,
 }
 
-/// How many frames are needed, and how many may be had.
+/// How many frames are needed, and how many are available.
 #[derive(Clone, Copy, Debug, PartialEq, Eq)]
 pub struct Frames {
+    /// How many are needed.
     pub need: u32,
+    /// How many are available.
     pub have: u32,
 }
 
-/// The number of `NoFrames`.
-const NO_FRAMES: u32 = 31;
+/// A refusal of a call that takes a map or a program, and that value.
+#[derive(Clone, Copy, Debug, PartialEq, Eq)]
+pub struct Returned<T> {
+    /// What the call was made on, as it was.
+    pub value: T,
+    /// Why it was refused.
+    pub refused: Refused,
+}
 
-/// The number of `HasMaps`.
-const HAS_MAPS: u32 = 104;
+/// Makes a constant of each number, and the function that names them.
+macro_rules! codes {
+    ($($number:literal $constant:ident $name:literal)*) => {
+        /// Numbers of refusals: 1 to 25 are rules of the verifier (docs/VERIFIER.md), 31 to 45 refusals of the host (docs/HOST.md), the others
+        /// those of the library.
+        pub mod code {
+            $(
+                #[doc = concat!("`", $name, "`")]
+                pub const $constant: u32 = $number;
+            )*
+        }
+
+        /// The name of a number.
+        fn name_of(code: u32) -> &'static str {
+            match code {
+                $($number => $name,)*
+                _ => "an unknown refusal",
+            }
+        }
+    };
+}
+
+codes! {
+    1 BAD_LENGTH "BadLength"
+    2 UNKNOWN_OPCODE "UnknownOpcode"
+    3 BAD_FIELD "BadField"
+    4 BAD_REGISTER "BadRegister"
+    5 CUT_WIDE "CutWide"
+    11 BACK_JUMP "BackJump"
+    12 JUMP_OUT "JumpOut"
+    13 FALLS_OFF "FallsOff"
+    14 UNSET_REGISTER "UnsetRegister"
+    15 WRONG_KIND "WrongKind"
+    16 OUTSIDE_CONTEXT "OutsideContext"
+    17 OUTSIDE_STACK "OutsideStack"
+    18 UNSET_STACK "UnsetStack"
+    19 OUTSIDE_MAP "OutsideMap"
+    20 MISALIGNED "Misaligned"
+    21 NULL_NOT_CHECKED "NullNotChecked"
+    22 FRAME_WRITTEN "FrameWritten"
+    23 UNKNOWN_HELPER "UnknownHelper"
+    24 UNKNOWN_MAP "UnknownMap"
+    25 POINTER_LEAKS "PointerLeaks"
+    31 NO_FRAMES "NoFrames"
+    32 TOO_MANY_MAPS "TooManyMaps"
+    33 BAD_SHAPE "BadShape"
+    34 NO_MAP "NoMap"
+    35 NO_ELEMENT "NoElement"
+    36 BUSY "Busy"
+    37 NO_RUN "NoRun"
+    38 NO_PROGRAM "NoProgram"
+    39 BAD_CONTEXT "BadContext"
+    40 BAD_OPTION "BadOption"
+    41 OUT_OF_MEMORY "OutOfMemory"
+    42 BAD_TENANT "BadTenant"
+    43 IN_USE "InUse"
+    44 PAGES_SHARED "PagesShared"
+    45 TOO_MANY_PROGRAMS "TooManyPrograms"
+    100 CLOSED "Closed"
+    101 OPEN_ALREADY "OpenAlready"
+    102 WRONG_LENGTH "WrongLength"
+    103 BAD_OBJECT "BadObject"
+    104 HAS_MAPS "HasMaps"
+}
 
 impl Refused {
-    /// The refusal of an object's maps for a tenant that has a map.
-    pub(crate) fn has_maps() -> Refused {
-        Refused {
-            code: HAS_MAPS,
-            slot: None,
-            frames: None,
-        }
-    }
-
-    /// What a call answered: nothing where the code is 0.
+    /// What a call answered: nothing if the code is 0.
     pub(crate) fn check(code: u32, more: ffi::Refused) -> Result<(), Refused> {
         if code == 0 {
             return Ok(());
@@ -50,53 +113,14 @@ impl Refused {
         Err(Refused {
             code,
             slot: (1..=25).contains(&code).then_some(more.slot),
-            frames: (code == NO_FRAMES).then_some(frames),
+            frames: (code == code::NO_FRAMES).then_some(frames),
+            made: 0,
         })
     }
 
     /// The name of the refusal, as in docs/HOST.md.
     pub fn name(&self) -> &'static str {
-        match self.code {
-            1 => "BadLength",
-            2 => "UnknownOpcode",
-            3 => "BadField",
-            4 => "BadRegister",
-            5 => "CutWide",
-            11 => "BackJump",
-            12 => "JumpOut",
-            13 => "FallsOff",
-            14 => "UnsetRegister",
-            15 => "WrongKind",
-            16 => "OutsideContext",
-            17 => "OutsideStack",
-            18 => "UnsetStack",
-            19 => "OutsideMap",
-            20 => "Misaligned",
-            21 => "NullNotChecked",
-            22 => "FrameWritten",
-            23 => "UnknownHelper",
-            24 => "UnknownMap",
-            25 => "PointerLeaks",
-            31 => "NoFrames",
-            32 => "TooManyMaps",
-            33 => "BadShape",
-            34 => "NoMap",
-            35 => "NoElement",
-            36 => "Busy",
-            37 => "NoRun",
-            38 => "NoProgram",
-            39 => "BadContext",
-            40 => "BadOption",
-            41 => "OutOfMemory",
-            42 => "BadTenant",
-            43 => "InUse",
-            44 => "PagesShared",
-            45 => "TooManyPrograms",
-            102 => "WrongLength",
-            103 => "BadObject",
-            104 => "HasMaps",
-            _ => "an unknown refusal",
-        }
+        name_of(self.code)
     }
 }
 
@@ -114,3 +138,17 @@ impl fmt::Display for Refused {
 }
 
 impl std::error::Error for Refused {}
+
+impl<T> fmt::Display for Returned<T> {
+    fn fmt(&self, out: &mut fmt::Formatter<'_>) -> fmt::Result {
+        self.refused.fmt(out)
+    }
+}
+
+impl<T: fmt::Debug> std::error::Error for Returned<T> {}
+
+impl<T> From<Returned<T>> for Refused {
+    fn from(returned: Returned<T>) -> Refused {
+        returned.refused
+    }
+}

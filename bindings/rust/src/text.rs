@@ -1,17 +1,17 @@
 //! What the verifier and the lowering say of a text, without a host.
 
 use crate::ffi;
-use crate::refused::Refused;
-use crate::tenant::Shape;
+use crate::map::Shape;
+use crate::refused::{code, Refused};
 
 /// The most bytes of a program's text: 4096 slots.
 const MOST_BYTES: usize = 32768;
 
-/// What a call returns where a buffer is too short.
-const TOO_SHORT: u32 = 102;
-
 /// Verifies a text as [`Tenant::load`](crate::Tenant::load) does, for maps of these shapes, by number, and contexts of `context_size` bytes. A
 /// number without a shape is that of no map; so is a shape of two zeros.
+///
+/// # Errors
+/// `TooManyMaps` of more than eight shapes, `BadShape`, `BadContext`, a rule of the verifier, and `OutOfMemory`.
 ///
 /// ```
 /// let endless = [0x05, 0, 0xff, 0xff, 0, 0, 0, 0]; // goto -1
@@ -19,6 +19,7 @@ const TOO_SHORT: u32 = 102;
 /// assert_eq!((refused.name(), refused.slot), ("BackJump", Some(0)));
 /// ```
 pub fn verify(text: &[u8], shapes: &[Option<Shape>], context_size: u32) -> Result<(), Refused> {
+    ffi::check_version();
     let shapes = given(shapes);
     let mut refused = ffi::Refused::default();
     // SAFETY: the text and the shapes are slices of their lengths, and outlive the call.
@@ -35,8 +36,10 @@ pub fn verify(text: &[u8], shapes: &[Option<Shape>], context_size: u32) -> Resul
     Refused::check(code, refused)
 }
 
-/// A text with the same runs that [`verify`] accepts, with blocks in another order and loops in several copies (docs/LOWER.md). Where none is
-/// found, the refusal is that of the text.
+/// A text with the same runs that [`verify`] accepts, with blocks in another order and loops in several copies (docs/LOWER.md).
+///
+/// # Errors
+/// What `verify` refuses, if no such text is found.
 ///
 /// ```
 /// // r0 = 0; r0 += 1; if r0 < 3 goto -2; exit
@@ -50,6 +53,7 @@ pub fn verify(text: &[u8], shapes: &[Option<Shape>], context_size: u32) -> Resul
 /// # Ok::<(), bpf_host::Refused>(())
 /// ```
 pub fn lower(text: &[u8], shapes: &[Option<Shape>], context_size: u32) -> Result<Vec<u8>, Refused> {
+    ffi::check_version();
     let shapes = given(shapes);
     let mut refused = ffi::Refused::default();
     let mut lowered = vec![0; MOST_BYTES];
@@ -73,7 +77,11 @@ pub fn lower(text: &[u8], shapes: &[Option<Shape>], context_size: u32) -> Result
     Ok(lowered)
 }
 
-/// What the program `explain` prints of a text: the line of its verdict, and its instructions with what the verifier knows at each.
+/// What the program `explain` prints of a text: the line of its verdict, and its instructions with what the verifier knows at each. If memory runs out,
+/// it may say so in place of them.
+///
+/// # Errors
+/// `OutOfMemory`.
 ///
 /// ```
 /// let answer = [0xb7, 0, 0, 0, 42, 0, 0, 0, 0x95, 0, 0, 0, 0, 0, 0, 0]; // r0 = 42, exit
@@ -86,6 +94,7 @@ pub fn explain(
     shapes: &[Option<Shape>],
     context_size: u32,
 ) -> Result<String, Refused> {
+    ffi::check_version();
     let shapes = given(shapes);
     let mut explained = vec![0; MOST_BYTES];
     loop {
@@ -103,7 +112,7 @@ pub fn explain(
                 &mut written,
             )
         };
-        if code == TOO_SHORT {
+        if code == code::WRONG_LENGTH {
             explained.resize(written, 0);
             continue;
         }

@@ -1,7 +1,7 @@
 //! What a program in Rust sees of a host: values, refusals and counters of docs/HOST.md and docs/MERGING.md.
 
-use bpf_host::{explain, lower, verify};
-use bpf_host::{Counters, Frames, Host, Object, Options, Refused, Run, Setting, Shape};
+use bpf_host::{code, explain, lower, verify};
+use bpf_host::{Frames, Host, Object, Options, Refused, Run, Setting, Shape};
 
 /// r0 = 42, exit.
 const ANSWER: &str = "b70000002a0000009500000000000000";
@@ -22,9 +22,19 @@ fn host(frames: u32, tenants: u32) -> Host {
     Host::new(frames, tenants, Options::default()).unwrap()
 }
 
-fn code(of: Result<(), Refused>) -> u32 {
-    of.unwrap_err().code
+/// The name of what refused a call.
+fn refusal<T, E: Into<Refused>>(of: Result<T, E>) -> &'static str {
+    match of {
+        Ok(_) => "nothing",
+        Err(refused) => refused.into().name(),
+    }
 }
+
+/// One value of eight bytes.
+const WORD: Shape = Shape {
+    value_size: 8,
+    entries: 1,
+};
 
 #[test]
 fn runs_return_what_the_standard_says() {
@@ -36,7 +46,7 @@ fn runs_return_what_the_standard_says() {
 #[test]
 fn a_map_keeps_what_runs_and_updates_write() {
     let host = host(3, 1);
-    let map = host.tenant(0).create_map(8, 1, true).unwrap();
+    let map = host.tenant(0).create_map(WORD, true).unwrap();
     let counter = host.tenant(0).load(&text(COUNTER), 0).unwrap();
     for count in 1..=3 {
         assert_eq!(counter.run(&[]).unwrap().ret, count);
@@ -49,28 +59,32 @@ fn a_map_keeps_what_runs_and_updates_write() {
 #[test]
 fn a_map_is_found_by_its_number() {
     let host = host(4, 2);
-    let made = host.tenant(1).create_map(24, 3, true).unwrap();
-    made.update(2, &[7; 24]).unwrap();
-    let found = host.tenant(1).map(0).unwrap();
     let shape = Shape {
         value_size: 24,
         entries: 3,
     };
+    let made = host.tenant(1).create_map(shape, true).unwrap();
+    made.update(2, &[7; 24]).unwrap();
+    let found = host.tenant(1).map(0).unwrap();
     assert_eq!((made.shape(), found.shape()), (Ok(shape), Ok(shape)));
     assert_eq!(found.get(2), Ok(vec![7; 24]));
-    assert_eq!(code(host.tenant(0).map(0).map(drop)), 34);
-    made.remove().map_err(|(_, refused)| refused).unwrap();
-    assert_eq!(code(found.shape().map(drop)), 34);
+    assert_eq!(refusal(host.tenant(0).map(0)), "NoMap");
+    assert_eq!(refusal(found.lookup(2, &mut [0; 23])), "WrongLength");
+    made.remove().unwrap();
+    assert_eq!(refusal(found.shape()), "NoMap");
+    // A newer map has the number, and another shape.
+    let _newer = host.tenant(1).create_map(WORD, true).unwrap();
+    assert_eq!(found.get(0), Ok(vec![0; 8]));
 }
 
 #[test]
 fn equal_pages_share_a_frame_and_no_value_shows_it() {
     let host = host(4, 2);
-    let maps = [0, 1].map(|tenant| host.tenant(tenant).create_map(8, 1, true).unwrap());
+    let maps = [0, 1].map(|tenant| host.tenant(tenant).create_map(WORD, true).unwrap());
     for map in &maps {
         map.update(0, &[7; 8]).unwrap();
     }
-    let merged = host.visit(4).unwrap();
+    let merged = host.visit(4);
     assert_eq!(
         (merged.pages_shared, merged.pages_sharing, merged.full_scans),
         (1, 1, 2)
@@ -80,30 +94,35 @@ fn equal_pages_share_a_frame_and_no_value_shows_it() {
         (maps[0].get(0), maps[1].get(0)),
         (Ok(vec![8; 8]), Ok(vec![7; 8]))
     );
-    assert_eq!(host.counters().unwrap().pages_sharing, 0);
+    assert_eq!(host.counters().pages_sharing, 0);
 }
 
 #[test]
 fn a_run_goes_on_step_by_step() {
     let host = host(2, 1);
-    let program = host.tenant(0).load(&text(ANSWER), 0).unwrap();
-    let mut run = program.begin(&[]).unwrap();
-    assert_eq!(program.run(&[]).unwrap_err().name(), "Busy");
-    assert_eq!(run.step(1), Ok(None));
-    assert_eq!(run.step(1), Ok(Some(Run { ret: 42, steps: 2 })));
-    assert_eq!(run.step(1).unwrap_err().name(), "NoRun");
+    let tenant = host.tenant(0);
+    let program = tenant.load(&text(ANSWER), 0).unwrap();
+    assert_eq!(refusal(tenant.step(1)), "NoRun");
+    program.begin(&[]).unwrap();
+    assert_eq!(refusal(program.run(&[])), "Busy");
+    assert_eq!(refusal(program.begin(&[])), "Busy");
+    let busy = program.unload().unwrap_err();
+    assert_eq!(busy.refused.code, code::BUSY);
+    assert_eq!(tenant.step(1), Ok(None));
+    assert_eq!(tenant.step(1), Ok(Some(Run { ret: 42, steps: 2 })));
+    assert_eq!(refusal(tenant.step(1)), "NoRun");
+    busy.value.unload().unwrap();
 }
 
 #[test]
 fn many_runs_are_made_in_their_order() {
     let host = host(3, 1);
-    let _map = host.tenant(0).create_map(8, 1, true).unwrap();
+    let _map = host.tenant(0).create_map(WORD, true).unwrap();
     let counter = host.tenant(0).load(&text(COUNTER), 0).unwrap();
     let mut rets = [0; 5];
     counter.run_many(&[], &mut rets).unwrap();
     assert_eq!(rets, [1, 2, 3, 4, 5]);
-    let (made, refused) = counter.run_many(&[0; 7], &mut rets).unwrap_err();
-    assert_eq!((made, refused.code, rets), (0, 102, [1, 2, 3, 4, 5]));
+    assert_eq!(refusal(counter.run_many(&[0; 7], &mut rets)), "WrongLength");
     let first_byte = host
         .tenant(0)
         .load(&text("71100000000000009500000000000000"), 8)
@@ -112,28 +131,27 @@ fn many_runs_are_made_in_their_order() {
     (contexts[0], contexts[8], contexts[16]) = (5, 6, 7);
     first_byte.run_many(&contexts, &mut rets[..3]).unwrap();
     assert_eq!(rets, [5, 6, 7, 4, 5]);
-    let (made, refused) = first_byte
-        .run_many(&contexts[..16], &mut rets[..4])
-        .unwrap_err();
-    assert_eq!(
-        (made, refused.name(), rets),
-        (0, "BadContext", [5, 6, 7, 4, 5])
-    );
+    let shorter = first_byte.run_many(&contexts[..16], &mut rets[..4]);
+    assert_eq!(refusal(shorter), "BadContext");
+    assert_eq!(rets, [5, 6, 7, 4, 5]);
+    assert_eq!(first_byte.run_many(&[], &mut []), Ok(()));
 }
 
+/// One frame is free, and the counter's page shares its frame with another: the first run takes the free one, and the second may not begin.
 #[test]
 fn many_runs_say_how_many_were_made() {
     let host = host(3, 1);
     let tenant = host.tenant(0);
-    let _map = tenant.create_map(8, 1, true).unwrap();
-    let other = tenant.create_map(8, 1, true).unwrap();
-    assert_eq!(host.visit(8).unwrap().frames_free, 1);
+    let _map = tenant.create_map(WORD, true).unwrap();
+    let other = tenant.create_map(WORD, true).unwrap();
+    assert_eq!(host.visit(8).frames_free, 1);
     let counter = tenant.load(&text(COUNTER), 0).unwrap();
     let mut rets = [7, 8, 9];
-    let (made, refused) = counter.run_many(&[], &mut rets).unwrap_err();
-    assert_eq!((made, refused.code, rets), (1, 31, [1, 8, 9]));
-    other.remove().map_err(|(_, refused)| refused).unwrap();
-    counter.run_many(&[], &mut rets[made..]).unwrap();
+    let refused = counter.run_many(&[], &mut rets).unwrap_err();
+    assert_eq!((refused.code, refused.made), (code::NO_FRAMES, 1));
+    assert_eq!(rets, [1, 8, 9]);
+    other.remove().unwrap();
+    counter.run_many(&[], &mut rets[refused.made..]).unwrap();
     assert_eq!(rets, [1, 2, 3]);
 }
 
@@ -141,11 +159,15 @@ fn many_runs_say_how_many_were_made() {
 fn refusals_say_where_and_change_nothing() {
     let host = host(2, 1);
     let tenant = host.tenant(0);
-    let map = tenant.create_map(8, 1, true).unwrap();
-    let refused = tenant.create_map(4096, 2, true).err().unwrap();
+    let map = tenant.create_map(WORD, true).unwrap();
+    let pages = Shape {
+        value_size: 4096,
+        entries: 2,
+    };
+    let refused = tenant.create_map(pages, true).unwrap_err();
     assert_eq!(
         (refused.code, refused.frames),
-        (31, Some(Frames { need: 2, have: 0 }))
+        (code::NO_FRAMES, Some(Frames { need: 2, have: 0 }))
     );
     assert_eq!(refused.to_string(), "refused 31 NoFrames need 2 have 0");
     let refused = tenant
@@ -153,59 +175,121 @@ fn refusals_say_where_and_change_nothing() {
         .err()
         .unwrap();
     assert_eq!(refused.to_string(), "refused 14 UnsetRegister at 1");
-    assert_eq!(
-        host.tenant(1).create_map(8, 1, true).err().unwrap().name(),
-        "BadTenant"
-    );
-    assert_eq!(code(map.update(1, &[0; 8])), 35);
-    assert_eq!(code(map.update(0, &[0; 7])), 33);
-    assert_eq!(code(host.set(Setting::PagesToScan(0))), 40);
+    assert_eq!(refusal(host.tenant(1).create_map(WORD, true)), "BadTenant");
+    assert_eq!(refusal(map.update(1, &[0; 8])), "NoElement");
+    assert_eq!(refusal(map.update(0, &[0; 7])), "BadShape");
+    assert_eq!(refusal(host.set(Setting::PagesToScan(0))), "BadOption");
     assert_eq!(map.get(0), Ok(vec![0; 8]));
-    assert_eq!(
-        Host::new(1, 1, Options::default()).err().unwrap().name(),
-        "BadShape"
-    );
+    assert_eq!(refusal(Host::new(1, 1, Options::default())), "BadShape");
+}
+
+#[test]
+fn a_ninth_map_or_program_is_refused() {
+    let host = host(20, 1);
+    let tenant = host.tenant(0);
+    let _maps = [(); 8].map(|()| tenant.create_map(WORD, true).unwrap());
+    let _programs = [(); 8].map(|()| tenant.load(&text(ANSWER), 0).unwrap());
+    assert_eq!(refusal(tenant.create_map(WORD, true)), "TooManyMaps");
+    assert_eq!(refusal(tenant.load(&text(ANSWER), 0)), "TooManyPrograms");
 }
 
 #[test]
 fn a_map_in_use_comes_back() {
     let host = host(2, 1);
-    let map = host.tenant(0).create_map(8, 1, true).unwrap();
+    let map = host.tenant(0).create_map(WORD, true).unwrap();
     let counter = host.tenant(0).load(&text(COUNTER), 0).unwrap();
-    let (map, refused) = map.remove().err().unwrap();
-    assert_eq!(refused.name(), "InUse");
-    counter.unload().map_err(|(_, refused)| refused).unwrap();
-    map.remove().map_err(|(_, refused)| refused).unwrap();
+    let returned = map.remove().unwrap_err();
+    assert_eq!(returned.to_string(), "refused 43 InUse");
+    counter.unload().unwrap();
+    returned.value.remove().unwrap();
+}
+
+/// The names and numbers of the header's refusals, NO_FRAMES as NoFrames.
+fn refusals_of_header() -> Vec<(u32, String)> {
+    let header = include_str!("../../../include/bpf_host.h");
+    let (_, codes) = header.split_once("BPF_HOST_DONE = 0,").unwrap();
+    let (codes, _) = codes.split_once('}').unwrap();
+    let lines = codes.split(',').map(str::trim);
+    lines
+        .map(|line| {
+            let (name, number) = line.split_once(" = ").unwrap();
+            let words = name.strip_prefix("BPF_HOST_").unwrap().split('_');
+            let capitalized = words.map(|word| word[..1].to_owned() + &word[1..].to_lowercase());
+            (number.parse().unwrap(), capitalized.collect())
+        })
+        .collect()
+}
+
+#[test]
+fn refusals_have_the_names_of_the_header() {
+    let refused = verify(&[0; 7], &[], 0).unwrap_err();
+    let listed = refusals_of_header();
+    assert_eq!(listed.len(), 40);
+    for (number, name) in listed {
+        let mut other = refused;
+        other.code = number;
+        assert_eq!(other.name(), name);
+    }
 }
 
 /// A host of two tenants, each with one page of the same bytes that aren't zero.
 fn two_equal_pages(options: Options) -> Host {
     let host = Host::new(4, 2, options).unwrap();
     for tenant in [0, 1] {
-        let map = host.tenant(tenant).create_map(8, 1, true).unwrap();
+        let map = host.tenant(tenant).create_map(WORD, true).unwrap();
         map.update(0, &[7; 8]).unwrap();
     }
     host
 }
 
+/// By docs/MERGING.md: of 25 pages five have the same bytes, and lie on two frames, since at most three share one; two others have the same; five
+/// wait for an equal one; six change before their last visit; and seven are zeros.
 #[test]
-fn each_counter_is_told_under_its_name() {
-    let wanted = Counters {
-        full_scans: 2,
-        pages_shared: 1,
-        pages_sharing: 1,
-        pages_unshared: 0,
-        pages_volatile: 0,
-        ksm_zero_pages: 0,
-        stable_node_chains: 0,
-        stable_node_dups: 0,
-        frames_free: 2,
+fn each_counter_has_its_name() {
+    let options = Options {
+        use_zero_pages: true,
+        max_page_sharing: 3,
+        ..Options::default()
     };
-    let host = two_equal_pages(Options::default());
-    assert_eq!(host.visit(2).unwrap().pages_volatile, 2);
-    assert_eq!(host.visit(2), Ok(wanted));
+    let host = Host::new(28, 1, options).unwrap();
+    let pages = Shape {
+        value_size: 4096,
+        entries: 25,
+    };
+    let map = host.tenant(0).create_map(pages, true).unwrap();
+    let fill = |key: u32, byte: u8| map.update(key, &[byte; 4096]).unwrap();
+    (0..5).for_each(|key| fill(key, 1));
+    (5..7).for_each(|key| fill(key, 2));
+    (7..18).for_each(|key| fill(key, 10 + key as u8));
+    host.visit(7 * 25);
+    (12..18).for_each(|key| fill(key, 100 + key as u8));
+    let after = host.visit(25);
+    assert_eq!(host.counters(), after);
+    assert_eq!(after.full_scans, 8);
+    assert_eq!(after.pages_shared, 3);
+    assert_eq!(after.pages_sharing, 4);
+    assert_eq!(after.pages_unshared, 5);
+    assert_eq!(after.pages_volatile, 6);
+    assert_eq!(after.ksm_zero_pages, 7);
+    assert_eq!(after.stable_node_chains, 1);
+    assert_eq!(after.stable_node_dups, 2);
+    assert_eq!(after.frames_free, 13);
+    // Four of the seven pages on shared frames and the seven of zeros need a frame each.
     host.unmerge().unwrap();
-    assert_eq!(host.counters().unwrap().frames_free, 1);
+    assert_eq!(host.counters().frames_free, 2);
+}
+
+#[test]
+fn unmerging_needs_frames() {
+    let host = two_equal_pages(Options::default());
+    host.visit(4);
+    let other = Shape {
+        value_size: 4096,
+        entries: 2,
+    };
+    let _more = host.tenant(0).create_map(other, true).unwrap();
+    assert_eq!(refusal(host.unmerge()), "NoFrames");
+    assert_eq!(host.counters().pages_sharing, 1);
 }
 
 #[test]
@@ -214,40 +298,45 @@ fn each_option_is_set_by_its_name() {
         run: false,
         ..Options::default()
     };
-    assert_eq!(two_equal_pages(stopped).visit(4).unwrap().full_scans, 0);
+    assert_eq!(two_equal_pages(stopped).visit(4).full_scans, 0);
     let host = two_equal_pages(Options::default());
     host.set(Setting::Run(false)).unwrap();
-    assert_eq!(host.visit(4).unwrap().full_scans, 0);
+    assert_eq!(host.visit(4).full_scans, 0);
     host.set(Setting::Run(true)).unwrap();
-    assert_eq!(host.visit(4).unwrap().full_scans, 2);
+    assert_eq!(host.visit(4).full_scans, 2);
+    let shared = host.set(Setting::MaxPageSharing(3));
+    assert_eq!(refusal(shared), "PagesShared");
 
     let zeros = Host::new(4, 1, Options::default()).unwrap();
-    let _map = zeros.tenant(0).create_map(8, 1, true).unwrap();
+    let _map = zeros.tenant(0).create_map(WORD, true).unwrap();
     zeros.set(Setting::UseZeroPages(true)).unwrap();
-    assert_eq!(zeros.visit(4).unwrap().ksm_zero_pages, 1);
-    assert_eq!(code(zeros.set(Setting::MaxPageSharing(1))), 40);
+    assert_eq!(zeros.visit(4).ksm_zero_pages, 1);
+    assert_eq!(refusal(zeros.set(Setting::MaxPageSharing(1))), "BadOption");
     zeros.set(Setting::MaxPageSharing(2)).unwrap();
-    assert_eq!(code(zeros.set(Setting::PagesToScan(100_001))), 40);
+    assert_eq!(
+        refusal(zeros.set(Setting::PagesToScan(100_001))),
+        "BadOption"
+    );
     zeros.set(Setting::PagesToScan(1)).unwrap();
 
     let alone = Options {
         max_page_sharing: 1,
         ..Options::default()
     };
-    assert_eq!(Host::new(4, 1, alone).err().unwrap().name(), "BadOption");
+    assert_eq!(refusal(Host::new(4, 1, alone)), "BadOption");
 }
 
 #[test]
 fn a_text_is_verified_for_maps_by_number() {
-    let shape = Some(Shape {
-        value_size: 8,
-        entries: 1,
-    });
+    let shape = Some(WORD);
     assert_eq!(verify(&text(COUNTER), &[shape], 0), Ok(()));
     let refused = verify(&text(COUNTER), &[None, shape], 0).unwrap_err();
     assert_eq!(refused.to_string(), "refused 24 UnknownMap at 3");
-    assert_eq!(code(verify(&text(ANSWER), &[], 7)), 39);
-    assert_eq!(code(verify(&text(ANSWER), &[shape; 9], 0)), 32);
+    assert_eq!(refusal(verify(&text(ANSWER), &[], 7)), "BadContext");
+    assert_eq!(
+        refusal(verify(&text(ANSWER), &[shape; 9], 0)),
+        "TooManyMaps"
+    );
 }
 
 #[test]
@@ -264,7 +353,10 @@ fn a_loop_is_lowered_to_copies() {
     let lowered = lower(&loops, &[], 0).unwrap();
     let program = host.tenant(0).load(&lowered, 0).unwrap();
     assert_eq!(program.run(&[]).unwrap().ret, 3);
-    assert_eq!(code(lower(&text("0500ffff00000000"), &[], 0).map(drop)), 11);
+    assert_eq!(
+        refusal(lower(&text("0500ffff00000000"), &[], 0)),
+        "BackJump"
+    );
 }
 
 #[test]
@@ -299,8 +391,10 @@ fn an_object_file_is_loaded_with_its_maps() {
     assert_eq!(program.run(&[]), Ok(Run { ret, steps }));
     let first = host.tenant(0).map(1).unwrap().get(0);
     assert_eq!(first.as_ref(), Ok(&object.maps[1].first));
-    let again = host.tenant(0).load_object(&object, true);
-    assert_eq!(again.err().unwrap().name(), "HasMaps");
+    assert_eq!(
+        refusal(host.tenant(0).load_object(&object, true)),
+        "HasMaps"
+    );
 }
 
 #[test]
@@ -311,27 +405,33 @@ fn a_program_is_replaced_on_its_maps() {
     let kept = [9, 8, 7, 6, 5, 4, 3, 2];
     host.tenant(0).map(0).unwrap().update(0, &kept).unwrap();
     // A tenant has at most eight programs, so each of the older ones was unloaded.
-    let next = (0..20).fold(first, |program, _| {
-        let replaced = program.replace(&object);
-        replaced.map_err(|(_, refused)| refused).unwrap()
-    });
+    let next = (0..20).fold(first, |program, _| program.replace(&object).unwrap());
     assert_eq!(host.tenant(0).map(0).unwrap().get(0), Ok(kept.to_vec()));
     let cut = Object {
         text: vec![0; 7],
         ..object
     };
-    let (next, refused) = next.replace(&cut).err().unwrap();
-    assert_eq!(refused.name(), "BadLength");
-    assert_eq!(next.run(&[]).unwrap().steps, 6);
+    let returned = next.replace(&cut).unwrap_err();
+    assert_eq!(returned.refused.code, code::BAD_LENGTH);
+    assert_eq!(returned.value.run(&[]).unwrap().steps, 6);
 }
 
 #[test]
 fn a_refused_object_leaves_no_map_and_says_why() {
     let object = Object::read(&file("globals.o"), "", 0).unwrap();
     let small = host(3, 1);
-    let refused = small.tenant(0).load_object(&object, true).err().unwrap();
-    assert_eq!(refused.name(), "NoFrames");
-    assert_eq!(code(small.tenant(0).map(0).map(drop)), 34);
+    let tenant = small.tenant(0);
+    assert_eq!(refusal(tenant.load_object(&object, true)), "NoFrames");
+    assert!((0..8).all(|number| tenant.map(number).is_err()));
+    let large = host(8, 1);
+    let tenant = large.tenant(0);
+    let cut = Object {
+        text: vec![0; 7],
+        ..object
+    };
+    assert_eq!(refusal(tenant.load_object(&cut, true)), "BadLength");
+    assert!((0..8).all(|number| tenant.map(number).is_err()));
+    assert_eq!(large.counters().frames_free, 7);
     let refused = Object::read(&file("both.o"), "", 0).unwrap_err();
     assert_eq!(refused.refused.name(), "BadObject");
     assert!(refused.why.contains("there are several functions, "));
