@@ -206,7 +206,8 @@ fn a_map_in_use_comes_back() {
 
 /// The names and numbers of the header's refusals, NO_FRAMES as NoFrames.
 fn refusals_of_header() -> Vec<(u32, String)> {
-    let header = include_str!("../../../include/bpf_host.h");
+    let path = concat!(env!("CARGO_MANIFEST_DIR"), "/../../include/bpf_host.h");
+    let header = std::fs::read_to_string(path).unwrap();
     let (_, codes) = header.split_once("BPF_HOST_DONE = 0,").unwrap();
     let (codes, _) = codes.split_once('}').unwrap();
     let lines = codes.split(',').map(str::trim);
