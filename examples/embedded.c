@@ -3,8 +3,8 @@
  *     clang -g -O2 -target bpf -c examples/caps.c -o caps.o
  *     cc examples/embedded.c -Iinclude $(tools/static_library) -o embedded && ./embedded caps.o
  *
- * It prints 200, since a client's first request passes, and what its map has of it: with three files that have the same maps, 200, 200 and 429, as
- * the count goes on. Of a file that is refused it prints why, with the line of C. */
+ * It prints 200, since a client's first request passes, and `requests: 1`, which its map holds then: with three files that have the same maps, 200,
+ * 200 and 429, as the count goes on. Of a file that is refused it prints why, with the line of C. */
 #include "bpf_host.h"
 #include <stdio.h>
 #include <stdlib.h>
