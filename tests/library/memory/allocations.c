@@ -229,6 +229,7 @@ int main(void)
     left_until_refused = 0;
     runs_take_no_memory();
     wanted(lacked == refused - 1, "an allocation was refused, and no call said so");
+    wanted(refused > 10, "no allocation was refused");
     for (unsigned number = 1; explain_without(number) && number < 10000; number++)
         refused++;
     refused += objects_read("crates/bpf_object/data/globals.o", 0);

@@ -1,17 +1,18 @@
 /* Sixteen threads, each with a host of its own and that with sixteen tenants: a million runs in all. Each tenant counts its runs in a map, while
- * the scanner of its host merges what is equal; each run's answer and each value is to be the tenant's own count. Each host is opened before its
- * thread starts, and freed once that has ended. */
+ * the scanner of its host merges what is equal, in two passes at every 64th run, so that pages are shared and part again; each run's answer and each
+ * value is to be the tenant's own count. Each host is opened before its thread starts, and freed once that has ended. */
 #include "../check.h"
 
 #include <pthread.h>
 
 enum { THREADS = 16, TENANTS = 16, RUNS = 62500 };
 
-/* A thread, the host that it takes over, and what it counted that was wrong. */
+/* A thread, the host that it takes over, what it counted that was wrong, and how many pages shared another one's frame after all visits. */
 struct worker {
     pthread_t thread;
     struct bpf_host host;
     unsigned wrong;
+    uint64_t sharing;
 };
 
 /* The bytes of a text in hex, spaces left out: how many. */
@@ -68,8 +69,10 @@ static void *work(void *given)
     struct bpf_host_counters after;
     for (uint32_t number = 0; number < RUNS; number++) {
         worker->wrong += run_wrong(host, number % TENANTS, number / TENANTS + 1);
-        if (number % 64 == 0)
-            worker->wrong += bpf_host_visit(host, 5, &after) != 0;
+        if (number % 64 == 0) {
+            worker->wrong += bpf_host_visit(host, 2 * TENANTS, &after) != 0;
+            worker->sharing += after.pages_sharing;
+        }
     }
     for (uint32_t tenant = 0; tenant < TENANTS; tenant++)
         worker->wrong += value_wrong(host, tenant, RUNS / TENANTS + (tenant < RUNS % TENANTS));
@@ -80,6 +83,7 @@ int main(void)
 {
     static struct worker workers[THREADS];
     unsigned wrong = 0;
+    uint64_t sharing = 0;
     for (int i = 0; i < THREADS; i++) {
         workers[i].wrong = open_counters(&workers[i].host);
         if (pthread_create(&workers[i].thread, NULL, work, &workers[i]) != 0)
@@ -88,8 +92,9 @@ int main(void)
     for (int i = 0; i < THREADS; i++) {
         pthread_join(workers[i].thread, NULL);
         bpf_host_free(&workers[i].host);
-        wrong += workers[i].wrong;
+        wrong += workers[i].wrong + (workers[i].sharing == 0);
+        sharing += workers[i].sharing;
     }
-    printf("%d threads, %d runs: %u wrong\n", THREADS, THREADS * RUNS, wrong);
+    printf("%d threads, %d runs, pages shared %llu times: %u wrong\n", THREADS, THREADS * RUNS, (unsigned long long)sharing, wrong);
     return wrong != 0;
 }
