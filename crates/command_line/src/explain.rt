@@ -56,23 +56,19 @@ pub fn explained_of<'a>(
 }
 
 fn command<'a>(alloc: Global) -> Result<Command<'a>, AllocError> {
+    let program = "the program, as hex text, or @FILE: its bytes, hex text, or an object file";
+    let section = "the section or the function, where an object file has several";
+    let args = [
+        required(alloc, "HEX", program),
+        shapes(alloc),
+        context(alloc),
+        option(alloc, "section", "NAME", section),
+        flag(alloc, "all", "shows all that is known at each slot"),
+        flag(alloc, "lower", "lowers the program first"),
+        flag(alloc, "html", "writes an HTML page"),
+    ];
     Command::new(alloc, NAME)
         .version(VERSION)
         .about("shows what the verifier knows at each instruction of a program")
-        .arg(required(
-            alloc,
-            "HEX",
-            "the program, as hex text, or @FILE: its bytes, hex text, or an object file",
-        ))?
-        .arg(shapes(alloc))?
-        .arg(context(alloc))?
-        .arg(option(
-            alloc,
-            "section",
-            "NAME",
-            "the section or the function, where an object file has several",
-        ))?
-        .arg(flag(alloc, "all", "shows all that is known at each slot"))?
-        .arg(flag(alloc, "lower", "lowers the program first"))?
-        .arg(flag(alloc, "html", "writes an HTML page"))
+        .args(Vec::from_array(alloc, args)?)
 }

@@ -46,19 +46,16 @@ pub fn lowered_of<'a>(
 }
 
 fn command<'a>(alloc: Global) -> Result<Command<'a>, AllocError> {
+    let program = "the program, as hex text, or @FILE: its bytes or hex text";
+    let stats = "tells the slots before and after, and the copies of each loop";
+    let args = [
+        required(alloc, "HEX", program),
+        shapes(alloc),
+        context(alloc),
+        flag(alloc, "stats", stats),
+    ];
     Command::new(alloc, NAME)
         .version(VERSION)
         .about("makes a program with the same runs that the verifier accepts")
-        .arg(required(
-            alloc,
-            "HEX",
-            "the program, as hex text, or @FILE: its bytes or hex text",
-        ))?
-        .arg(shapes(alloc))?
-        .arg(context(alloc))?
-        .arg(flag(
-            alloc,
-            "stats",
-            "tells the slots before and after, and the copies of each loop",
-        ))
+        .args(Vec::from_array(alloc, args)?)
 }

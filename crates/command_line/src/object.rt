@@ -91,43 +91,37 @@ fn number_of(alloc: Global, matches: &ArgMatches<'_>, option: &str) -> Result<u3
 }
 
 fn command<'a>(alloc: Global) -> Result<Command<'a>, AllocError> {
-    let object = Command::new(alloc, NAME)
-        .about(
-            "prints the events of a host file that load a program from an object file, or runs it",
-        )
-        .arg(required(
-            alloc,
-            "FILE",
-            "the object file, as clang -target bpf -c makes it",
-        ))?
-        .arg(option(
-            alloc,
-            "section",
-            "NAME",
-            "the section or the function, where there are several",
-        ))?
-        .arg(option(alloc, "tenant", "N", "the tenant, 0 if it isn't given"))?
-        .arg(context(alloc))?
-        .arg(flag(
-            alloc,
-            "as-is",
-            "prints the text without lowering it for the verifier",
-        ))?
-        .arg(flag(alloc, "hex", "prints the text alone, as hex"))?
-        .arg(flag(
+    let about =
+        "prints the events of a host file that load a program from an object file, or runs it";
+    let file = "the object file, as clang -target bpf -c makes it";
+    let section = "the section or the function, where there are several";
+    let as_is = "prints the text without lowering it for the verifier";
+    let args = [
+        required(alloc, "FILE", file),
+        option(alloc, "section", "NAME", section),
+        option(alloc, "tenant", "N", "the tenant, 0 if it isn't given"),
+        context(alloc),
+        flag(alloc, "as-is", as_is),
+        flag(alloc, "hex", "prints the text alone, as hex"),
+        flag(
             alloc,
             "maps",
             "prints the name and the shape V:E of each map",
-        ))?;
-    with_run(object, run(alloc))
+        ),
+    ];
+    let args = Vec::from_array(alloc, args)?;
+    with_run(
+        Command::new(alloc, NAME).about(about).args(args),
+        run(alloc),
+    )
 }
 
 /// The command with the contexts of runs, if there is memory for that.
 fn with_run<'a>(
-    object: Command<'a>,
+    object: Result<Command<'a>, AllocError>,
     run: Result<Arg<'a>, AllocError>,
 ) -> Result<Command<'a>, AllocError> {
-    object.arg(run?)
+    object?.arg(run?)
 }
 
 /// The contexts on which the program is run. Options that say how it is printed are of no use then.
