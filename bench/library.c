@@ -29,30 +29,29 @@ static uint8_t sum[8 * SLOTS];
 
 static struct bpf_host host;
 static struct bpf_host_refused refused;
+static struct bpf_host_run run;
 static uint32_t failed;
 
 static void run_two_steps(void)
 {
     static const uint8_t context[64];
-    struct bpf_host_run run;
     failed |= bpf_host_run(&host, 0, 0, context, sizeof context, &run, &refused);
 }
 
 static void run_counter(void)
 {
-    struct bpf_host_run run;
     failed |= bpf_host_run(&host, 0, 1, counter, 0, &run, &refused);
 }
 
 static void run_4096_steps(void)
 {
-    struct bpf_host_run run;
     failed |= bpf_host_run(&host, 0, 2, sum, 0, &run, &refused);
+    failed |= run.steps != SLOTS;
 }
 
 static void load_4096_slots(void)
 {
-    uint32_t number;
+    uint32_t number = 0;
     failed |= bpf_host_load(&host, 0, sum, sizeof sum, 0, &number, &refused);
     failed |= bpf_host_unload(&host, 0, number);
 }
@@ -94,7 +93,7 @@ static void fill_sum(void)
 static void measure_calls(void)
 {
     struct bpf_host_options options = BPF_HOST_OPTIONS;
-    uint32_t number;
+    uint32_t number = 0;
     fill_sum();
     failed |= bpf_host_new(64, 1, &options, &host);
     failed |= bpf_host_create_map(&host, 0, 8, 1, true, &number, &refused);
@@ -222,7 +221,7 @@ static void update_pages(enum part part)
  * of zeros. */
 static void visit_pages(enum part part, enum part shared)
 {
-    struct bpf_host_counters after;
+    struct bpf_host_counters after = {0};
     failed |= bpf_host_visit(&host, end_of(part) - begin_of(part), &after);
     failed |= after.pages_sharing != (shared == ALL ? 0 : end_of(shared) - end_of(FIRST));
     failed |= after.ksm_zero_pages != (shared == ALL ? page_count : 0);
@@ -307,7 +306,7 @@ struct thousand {
 static void make_maps(uint32_t batch)
 {
     for (uint32_t map = 0; map < MAPS; map++) {
-        uint32_t number;
+        uint32_t number = 0;
         failed |= bpf_host_create_map(&host, 0, PAGE, (batch * MAPS + map) * 256 / 1000 + 1, true, &number, &refused);
     }
 }
@@ -322,7 +321,7 @@ static void drop_maps(void)
 static struct thousand measure_thousand(void)
 {
     struct thousand spent = {0, 0, 0};
-    struct bpf_host_counters after;
+    struct bpf_host_counters after = {0};
     for (uint32_t batch = 0; batch < BATCHES; batch++) {
         double start = now();
         make_maps(batch);
@@ -340,8 +339,8 @@ static struct thousand measure_thousand(void)
 static void measure_drops(int thousands)
 {
     struct bpf_host_options options = BPF_HOST_OPTIONS;
-    struct bpf_host_counters after;
-    uint32_t map;
+    struct bpf_host_counters after = {0};
+    uint32_t map = 0;
     failed |= bpf_host_new(FRAMES, TENANTS, &options, &host);
     for (uint32_t tenant = 1; tenant < TENANTS; tenant++)
         failed |= bpf_host_create_map(&host, tenant, PAGE, OTHERS_PAGES, true, &map, &refused);

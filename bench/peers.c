@@ -90,11 +90,15 @@ static void lookup_by_library(void)
     failed |= bpf_host_lookup(&host, 0, 0, 0, host_value, sizeof host_value);
 }
 
+/* The map and the key of the switch's calls, which the compiler doesn't know. */
+static const struct map *volatile flat_at = &flat;
+static volatile uint32_t key_at;
+
 /* The value is copied, as the library does. */
 static void lookup_by_switch(void)
 {
-    static const uint32_t key;
-    memcpy(host_value, (const void *)(uintptr_t)switch_lookup(&flat, &key), sizeof host_value);
+    const uint32_t key = key_at;
+    memcpy(host_value, (const void *)(uintptr_t)switch_lookup(flat_at, &key), sizeof host_value);
 }
 
 static void update_by_library(void)
@@ -104,19 +108,19 @@ static void update_by_library(void)
 
 static void update_by_switch(void)
 {
-    static const uint32_t key;
-    returned = switch_update(&flat, &key, host_value, 0);
+    const uint32_t key = key_at;
+    returned = switch_update(flat_at, &key, host_value, 0);
 }
 
 static void visit_by_library(void)
 {
-    struct bpf_host_counters after;
+    struct bpf_host_counters after = {0};
     failed |= bpf_host_visit(&host, 1, &after);
 }
 
 static void load_by_library(void)
 {
-    uint32_t number;
+    uint32_t number = 0;
     failed |= bpf_host_load(&host, 0, (const uint8_t *)sum.text, sizeof *sum.text * SLOTS, 0, &number, &refused);
     failed |= bpf_host_unload(&host, 0, number);
 }
@@ -179,8 +183,8 @@ static void print_call(const struct call *call, int rounds, int repeats)
 static void open_host(void)
 {
     struct bpf_host_options options = BPF_HOST_OPTIONS;
-    struct bpf_host_counters after;
-    uint32_t number;
+    struct bpf_host_counters after = {0};
+    uint32_t number = 0;
     failed |= bpf_host_new(64, 2, &options, &host);
     failed |= bpf_host_create_map(&host, 0, sizeof host_value, 1, true, &number, &refused);
     failed |= bpf_host_create_map(&host, 1, sizeof host_value, 1, true, &number, &refused);

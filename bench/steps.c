@@ -107,7 +107,7 @@ static double spent(struct bpf_host_run (*way)(void), struct bpf_host_run wanted
 
 static void load(void)
 {
-    uint32_t program;
+    uint32_t program = 0;
     failed |= bpf_host_load(&host, 0, (const uint8_t *)text, sizeof text, 0, &program, &refused);
 }
 

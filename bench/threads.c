@@ -17,7 +17,9 @@ static const uint8_t COUNTER[] = {
     0x07, 0x02, 0, 0, 0xfc, 0xff, 0xff, 0xff,               /* r2 += -4 */
     0x18, 0x11, 0, 0, 0, 0, 0, 0, 0, 0, 0, 0, 0, 0, 0, 0,   /* r1 = map 0 */
     0x85, 0, 0, 0, 0x01, 0, 0, 0,                           /* call map_lookup_elem */
-    0x15, 0x00, 0x04, 0, 0, 0, 0, 0,                        /* if r0 == 0 goto +4 */
+    0x55, 0x00, 0x02, 0, 0, 0, 0, 0,                        /* if r0 != 0 goto +2 */
+    0xb7, 0, 0, 0, 0, 0, 0, 0,                              /* r0 = 0 */
+    0x95, 0, 0, 0, 0, 0, 0, 0,                              /* exit */
     0x79, 0x01, 0, 0, 0, 0, 0, 0,                           /* r1 = *(u64 *)(r0 + 0) */
     0x07, 0x01, 0, 0, 0x01, 0, 0, 0,                        /* r1 += 1 */
     0x7b, 0x10, 0, 0, 0, 0, 0, 0,                           /* *(u64 *)(r0 + 0) = r1 */
@@ -39,7 +41,7 @@ struct worker {
 static uint32_t run_once(struct worker *worker)
 {
     struct bpf_host_run run = {0, 0};
-    struct bpf_host_refused refused;
+    struct bpf_host_refused refused = {0};
     uint8_t none[1] = {0};
     return bpf_host_run(worker->host, worker->tenant, 0, none, 0, &run, &refused);
 }
@@ -62,7 +64,7 @@ static void *work(void *argument)
 static uint32_t open_counters(struct bpf_host *host, uint32_t tenants)
 {
     struct bpf_host_options options = BPF_HOST_OPTIONS;
-    struct bpf_host_refused refused;
+    struct bpf_host_refused refused = {0};
     uint32_t made, code = bpf_host_new(64, tenants, &options, host);
     for (uint32_t tenant = 0; tenant < tenants; tenant++) {
         code |= bpf_host_create_map(host, tenant, 8, 1, false, &made, &refused);
@@ -75,7 +77,8 @@ static uint32_t open_counters(struct bpf_host *host, uint32_t tenants)
 static uint32_t miscounted(const struct worker *worker)
 {
     uint64_t count = 0;
-    return bpf_host_lookup(worker->host, worker->tenant, 0, 0, (uint8_t *)&count, sizeof count) | (count != worker->runs);
+    uint32_t code = bpf_host_lookup(worker->host, worker->tenant, 0, 0, (uint8_t *)&count, sizeof count);
+    return code | (count != worker->runs);
 }
 
 /* Millions of runs a second by so many threads, each with a host of its own or all with one. */

@@ -39,13 +39,16 @@ static void must(uint32_t code)
         exit(reject(code));
 }
 
-/* Reads an upload, and returns how many bytes it has. */
+/* Reads an upload, and returns how many bytes it has. One that is too long is cut, and then refused. */
 static size_t receive(const char *path)
 {
     FILE *upload = fopen(path, "rb");
-    size_t size = upload ? fread(file, 1, sizeof file, upload) : 0;
-    if (upload)
-        fclose(upload);
+    if (!upload) {
+        perror(path);
+        exit(1);
+    }
+    size_t size = fread(file, 1, sizeof file, upload);
+    fclose(upload);
     return size;
 }
 

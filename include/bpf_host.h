@@ -2,7 +2,7 @@
  * memory whose pages are merged: what a run returns and what a map holds don't depend on that, NO_FRAMES and the counters do. Each call does what
  * docs/HOST.md says of its event.
  *
- *     struct bpf_host host = {0};
+ *     struct bpf_host host = {0};                      // {} in C++
  *     struct bpf_host_options options = BPF_HOST_OPTIONS;
  *     struct bpf_host_run run = {0, 0};
  *     struct bpf_host_refused why = {0, 0, 0};
@@ -17,13 +17,14 @@
  *     a rule           1 to 25: the program breaks this rule of the verifier, at the slot `refused->slot`
  *     NO_FRAMES        more frames are needed than are available: `refused->need` and `refused->have`. Never if the host has 2 * P + 2 frames or
  *                      more, P being the pages of all its maps, and of the one that is to be made
- *     OUT_OF_MEMORY    no other refusal applies; but bpf_host_load returns it before 11 to 25 if there is no memory to verify the text,
- *                      and bpf_host_read_object before 103 and a rule; bpf_host_lower and bpf_host_replace before what they list after it
+ *     OUT_OF_MEMORY    no other refusal applies; but calls that verify a text (bpf_host_load, _verify, _load_object, _replace) return it before
+ *                      11 to 25 if there is no memory for that, bpf_host_read_object before 103 and a rule, bpf_host_explain before WRONG_LENGTH,
+ *                      bpf_host_lower and bpf_host_replace before what they list after it
  *     CLOSED           the handle is closed
  *     OPEN_ALREADY     the handle is already open (bpf_host_new)
  *     WRONG_LENGTH     the buffer's length isn't the value's (bpf_host_lookup; bpf_host_update returns BAD_SHAPE), or it is too short
  *                      (bpf_host_lower, bpf_host_explain), or the contexts can't all have the same size (bpf_host_run_many), or an object has a
- *                      length greater than its array's (bpf_host_load_object)
+ *                      length greater than its array's (bpf_host_load_object, bpf_host_replace)
  *     BAD_OBJECT       the object file isn't accepted: `object->why` says why (bpf_host_read_object)
  *     HAS_MAPS         the tenant already has a map (bpf_host_load_object)
  * bpf_host_lookup and bpf_host_update allocate no memory, and bpf_host_begin, _run and _run_many only if the context is longer than those of the
@@ -32,16 +33,16 @@
  * `*refused` that the number concerns (slot; need and have), `*written` if a buffer is too short, `object->why`, the runs that bpf_host_run_many
  * made before the refusal and their number, and a map that bpf_host_load_object made and couldn't drop.
  *
- * A call that was refused may be repeated, after NO_FRAMES when runs have ended or visits have merged pages, after OUT_OF_MEMORY when there is
- * memory; bpf_host_run_many with the contexts for which no run was made. How many frames a run needs doesn't depend on its context.
+ * A call that was refused may be repeated, after NO_FRAMES when runs have ended, visits have merged pages or a map was dropped, after OUT_OF_MEMORY
+ * when there is memory; bpf_host_run_many with the contexts for which no run was made. How many frames a run needs doesn't depend on its context.
  *
  * LIMITS. A host has 2 to 4096 frames of 4096 bytes and 1 to 16 tenants; a tenant at most 8 maps, 8 loaded programs and one open run. A map has 1 to
  * 65536 values of 1 to 4096 bytes, on at most 256 pages (1 MiB): a value takes a multiple of 8 bytes there. A program has 1 to 4096 slots of 8 bytes
  * and makes at most 4096 steps a run. A context has 0 to 256 bytes, a multiple of 8. An object file has at most 16 MiB.
  *
  * WHAT THE CALLER MUST ENSURE AT EACH CALL. No proof covers it.
- *   - No pointer is null, and each points to an initialized object of its type, also if the call only writes it: a `struct bpf_host` starts as
- *     all zeros, and a `bool` is true or false. An empty buffer needs a pointer that isn't null, too. Buffers of bytes need no alignment.
+ *   - No pointer is null, and each points to an initialized object of its type, also if the call only writes it, as above: a `struct bpf_host`
+ *     starts as all zeros, and a `bool` is true or false. An empty buffer needs a pointer that isn't null, too. Buffers of bytes need no alignment.
  *   - No two pointers of one call point to the same bytes, unless both are `const`. Until the call returns, nobody else writes to
  *     these bytes: bpf_host_run reads a context where it is.
  *   - The members of a `struct bpf_host` belong to the library: the caller neither reads nor writes them. An open handle may move to another
@@ -64,8 +65,30 @@
 extern "C" {
 #endif
 
+/* In C++ the functions bpf_host_run, bpf_host_shape and bpf_host_counters stand beside structs of their names. */
+#if defined __cplusplus && defined __GNUC__
+#pragma GCC diagnostic push
+#pragma GCC diagnostic ignored "-Wshadow"
+#endif
+
+/* Compilers warn where a null pointer is passed. */
+#ifdef __GNUC__
+#define BPF_HOST_NONNULL __attribute__((nonnull))
+#else
+#define BPF_HOST_NONNULL
+#endif
+
 /* The version of this header. The library has the same version if bpf_host_version returns this number. */
 #define BPF_HOST_VERSION 5
+
+/* The limits of a tenant and of what it is given: see above. */
+enum {
+    BPF_HOST_MAX_MAPS = 8,
+    BPF_HOST_MAX_PROGRAMS = 8,
+    BPF_HOST_MAX_TEXT = 32768,
+    BPF_HOST_MAX_VALUE = 4096,
+    BPF_HOST_MAX_CONTEXT = 256
+};
 
 /* A handle: {0} is closed. */
 struct bpf_host {
@@ -161,8 +184,8 @@ struct bpf_host_shape {
 struct bpf_host_object_map {
     struct bpf_host_shape shape;
     uint32_t first_len;
-    char name[64]; /* UTF-8 and zeros, one at least: a longer name is cut */
-    uint8_t first[4096];
+    char name[64]; /* UTF-8 and zeros, one at least: a longer name is cut. One with other characters than a name of C and dots is escaped, too */
+    uint8_t first[BPF_HOST_MAX_VALUE];
 };
 
 /* A program of an object file, its functions in one text and its loops unrolled, and its maps by number. It has 67180 bytes, so keep it static or on
@@ -171,9 +194,9 @@ struct bpf_host_object {
     uint32_t context_size;
     uint32_t text_len;
     uint32_t maps_len;
-    uint8_t text[32768];
-    struct bpf_host_object_map maps[8];
-    char why[1024]; /* after a refusal the reason, with the line of C: UTF-8 and zeros, one at least; more is cut */
+    uint8_t text[BPF_HOST_MAX_TEXT];
+    struct bpf_host_object_map maps[BPF_HOST_MAX_MAPS];
+    char why[1024]; /* after a refusal the reason, with the line of C: UTF-8 and zeros, one at least; more is cut. Unchanged if nothing is refused */
 };
 
 /* The counters, by the names of the kernel's manual. */
@@ -193,71 +216,73 @@ struct bpf_host_counters {
 uint32_t bpf_host_version(void);
 
 /* Opens a closed handle with a new host of 2 to 4096 frames and 1 to 16 tenants. Refused: OPEN_ALREADY, BAD_SHAPE, BAD_OPTION, OUT_OF_MEMORY. */
-uint32_t bpf_host_new(uint32_t frames, uint32_t tenants, const struct bpf_host_options *options, struct bpf_host *host);
+uint32_t bpf_host_new(uint32_t frames, uint32_t tenants, const struct bpf_host_options *options, struct bpf_host *host) BPF_HOST_NONNULL;
 
 /* Closes a handle and frees all that its host held. A closed handle stays closed. */
-void bpf_host_free(struct bpf_host *host);
+void bpf_host_free(struct bpf_host *host) BPF_HOST_NONNULL;
 
 /* Makes a map of `entries` values of `value_size` bytes, all zero, and writes its number to `*map`: 0 to 7. If it is `mergeable`, visits let its
  * pages share frames with equal pages of mergeable maps, of other tenants too. Refused: CLOSED, BAD_TENANT, BUSY,
  * TOO_MANY_MAPS, BAD_SHAPE, NO_FRAMES. */
 uint32_t bpf_host_create_map(struct bpf_host *host, uint32_t tenant, uint32_t value_size, uint32_t entries, bool mergeable, uint32_t *map,
-                             struct bpf_host_refused *refused);
+                             struct bpf_host_refused *refused) BPF_HOST_NONNULL;
 
 /* Removes a map that no loaded program refers to. Refused: CLOSED, BAD_TENANT, BUSY, NO_MAP, IN_USE. */
-uint32_t bpf_host_drop_map(struct bpf_host *host, uint32_t tenant, uint32_t map);
+uint32_t bpf_host_drop_map(struct bpf_host *host, uint32_t tenant, uint32_t map) BPF_HOST_NONNULL;
 
 /* Writes the shape of a map. A tenant that doesn't exist has no map. Refused: CLOSED, NO_MAP. */
-uint32_t bpf_host_shape(struct bpf_host *host, uint32_t tenant, uint32_t map, struct bpf_host_shape *shape);
+uint32_t bpf_host_shape(struct bpf_host *host, uint32_t tenant, uint32_t map, struct bpf_host_shape *shape) BPF_HOST_NONNULL;
 
 /* Verifies a program, slots of 8 bytes, for the tenant's maps and contexts of `context_size` bytes, and writes its number to `*program`: 0 to 7.
  * The text is copied. Refused: CLOSED, BAD_TENANT, BUSY, TOO_MANY_PROGRAMS, BAD_CONTEXT, a rule, OUT_OF_MEMORY. */
 uint32_t bpf_host_load(struct bpf_host *host, uint32_t tenant, const uint8_t *text, size_t text_len, uint32_t context_size, uint32_t *program,
-                       struct bpf_host_refused *refused);
+                       struct bpf_host_refused *refused) BPF_HOST_NONNULL;
 
 /* Removes a program. Refused: CLOSED, BAD_TENANT, BUSY, NO_PROGRAM. */
-uint32_t bpf_host_unload(struct bpf_host *host, uint32_t tenant, uint32_t program);
+uint32_t bpf_host_unload(struct bpf_host *host, uint32_t tenant, uint32_t program) BPF_HOST_NONNULL;
 
 /* Runs a program on a context, from its first instruction to its end: a begin and all its steps. Refused: CLOSED, BAD_TENANT, BUSY, NO_PROGRAM,
  * BAD_CONTEXT, NO_FRAMES, OUT_OF_MEMORY. */
 uint32_t bpf_host_run(struct bpf_host *host, uint32_t tenant, uint32_t program, const uint8_t *context, size_t context_len,
-                      struct bpf_host_run *run, struct bpf_host_refused *refused);
+                      struct bpf_host_run *run, struct bpf_host_refused *refused) BPF_HOST_NONNULL;
 
 /* Runs a program once for each of `rets_len` contexts of one size, stored one after the other, and writes what each run returns: short runs take
  * less time this way than with one call each. It stops at the first refusal. `*made` is written in any case: how many runs were made, all if it
  * returns 0, and else the first ones; the other members of `rets` are unchanged. Refused: WRONG_LENGTH if the contexts can't all have the same
  * size, and what bpf_host_run refuses, but nothing besides that and CLOSED if `rets_len` is 0. */
 uint32_t bpf_host_run_many(struct bpf_host *host, uint32_t tenant, uint32_t program, const uint8_t *contexts, size_t contexts_len, uint64_t *rets,
-                           size_t rets_len, size_t *made, struct bpf_host_refused *refused);
+                           size_t rets_len, size_t *made, struct bpf_host_refused *refused) BPF_HOST_NONNULL;
 
-/* Opens a run of a program on a context, and reserves the frames that it may need. Refused: CLOSED, BAD_TENANT, BUSY, NO_PROGRAM, BAD_CONTEXT,
- * NO_FRAMES, OUT_OF_MEMORY. */
+/* Opens a run of a program on a context, and reserves the frames that it may need. It ends only by bpf_host_step, within 4096 steps, or with its
+ * host: until then the tenant's other calls but bpf_host_lookup and bpf_host_shape are BUSY. Refused: CLOSED, BAD_TENANT, BUSY, NO_PROGRAM,
+ * BAD_CONTEXT, NO_FRAMES, OUT_OF_MEMORY. */
 uint32_t bpf_host_begin(struct bpf_host *host, uint32_t tenant, uint32_t program, const uint8_t *context, size_t context_len,
-                        struct bpf_host_refused *refused);
+                        struct bpf_host_refused *refused) BPF_HOST_NONNULL;
 
 /* Makes at most `steps` steps of the tenant's open run. `*ended` says whether the run ended with them; if so, `*run` is written. Refused:
- * CLOSED, BAD_TENANT, NO_RUN. */
-uint32_t bpf_host_step(struct bpf_host *host, uint32_t tenant, uint64_t steps, bool *ended, struct bpf_host_run *run);
+ * CLOSED, BAD_TENANT, NO_RUN; only CLOSED if `steps` is 0, which ends nothing. */
+uint32_t bpf_host_step(struct bpf_host *host, uint32_t tenant, uint64_t steps, bool *ended, struct bpf_host_run *run) BPF_HOST_NONNULL;
 
 /* Copies a value of a map to a buffer of exactly its size. Refused: CLOSED, BAD_TENANT, NO_MAP, NO_ELEMENT, WRONG_LENGTH. */
-uint32_t bpf_host_lookup(struct bpf_host *host, uint32_t tenant, uint32_t map, uint32_t key, uint8_t *value, size_t value_len);
+uint32_t bpf_host_lookup(struct bpf_host *host, uint32_t tenant, uint32_t map, uint32_t key, uint8_t *value, size_t value_len) BPF_HOST_NONNULL;
 
-/* Writes a value of a map, from a buffer of exactly its size. Refused: CLOSED, BAD_TENANT, BUSY, NO_MAP, NO_ELEMENT, BAD_SHAPE, NO_FRAMES. */
+/* Writes a value of a map, from a buffer of exactly its size. One available frame is asked for, or two if a value may lie on two pages, also where
+ * none is taken. Refused: CLOSED, BAD_TENANT, BUSY, NO_MAP, NO_ELEMENT, BAD_SHAPE, NO_FRAMES. */
 uint32_t bpf_host_update(struct bpf_host *host, uint32_t tenant, uint32_t map, uint32_t key, const uint8_t *value, size_t value_len,
-                         struct bpf_host_refused *refused);
+                         struct bpf_host_refused *refused) BPF_HOST_NONNULL;
 
 /* Lets the scanner make `visits` visits, of one page each, and then writes the counters. Pages share frames by visits alone, so call it from time to
- * time if maps are mergeable. Refused: CLOSED. */
-uint32_t bpf_host_visit(struct bpf_host *host, uint32_t visits, struct bpf_host_counters *after);
+ * time if maps are mergeable. Unless the option `run` is 1, as at first, no page is visited. Refused: CLOSED. */
+uint32_t bpf_host_visit(struct bpf_host *host, uint32_t visits, struct bpf_host_counters *after) BPF_HOST_NONNULL;
 
 /* Sets an option. Refused: CLOSED, BAD_OPTION, PAGES_SHARED. */
-uint32_t bpf_host_set(struct bpf_host *host, uint32_t option, uint32_t value);
+uint32_t bpf_host_set(struct bpf_host *host, uint32_t option, uint32_t value) BPF_HOST_NONNULL;
 
-/* Gives each page that shares a frame a frame of its own, and stops the scanner. Refused: CLOSED, NO_FRAMES. */
-uint32_t bpf_host_unmerge(struct bpf_host *host, struct bpf_host_refused *refused);
+/* Gives each page that shares a frame a frame of its own, and stops the scanner: the option `run` is 2. Refused: CLOSED, NO_FRAMES. */
+uint32_t bpf_host_unmerge(struct bpf_host *host, struct bpf_host_refused *refused) BPF_HOST_NONNULL;
 
 /* Writes the counters. Refused: CLOSED. */
-uint32_t bpf_host_counters(struct bpf_host *host, struct bpf_host_counters *counters);
+uint32_t bpf_host_counters(struct bpf_host *host, struct bpf_host_counters *counters) BPF_HOST_NONNULL;
 
 /* CALLS ON A TEXT ALONE. They need no handle, and several threads may make them at the same time. `shapes` has the shapes of the maps that the
  * text may use, by number; a shape of two zeros means that there is no such map. */
@@ -265,20 +290,20 @@ uint32_t bpf_host_counters(struct bpf_host *host, struct bpf_host_counters *coun
 /* Verifies a text for maps of these shapes and contexts of `context_size` bytes, with the answer that bpf_host_load gives a tenant with such maps.
  * Refused: TOO_MANY_MAPS, BAD_SHAPE, BAD_CONTEXT, a rule, OUT_OF_MEMORY. */
 uint32_t bpf_host_verify(const uint8_t *text, size_t text_len, const struct bpf_host_shape *shapes, size_t shapes_len, uint32_t context_size,
-                         struct bpf_host_refused *refused);
+                         struct bpf_host_refused *refused) BPF_HOST_NONNULL;
 
 /* Makes a text with the same runs that the verifier accepts, with reordered blocks and several copies of loops (docs/LOWER.md), and writes its
  * length in bytes to `*written`: at most 32768. A text that is already accepted is copied unchanged. WRONG_LENGTH if `lowered_len` is less: then
  * `lowered` stays unchanged. Refused: TOO_MANY_MAPS, BAD_SHAPE, BAD_CONTEXT, OUT_OF_MEMORY, and the rule by which bpf_host_verify refuses the text,
  * if lowering doesn't help. */
 uint32_t bpf_host_lower(const uint8_t *text, size_t text_len, const struct bpf_host_shape *shapes, size_t shapes_len, uint32_t context_size,
-                        uint8_t *lowered, size_t lowered_len, size_t *written, struct bpf_host_refused *refused);
+                        uint8_t *lowered, size_t lowered_len, size_t *written, struct bpf_host_refused *refused) BPF_HOST_NONNULL;
 
 /* Writes what the program `explain` prints of a text, accepted or refused, without colours (docs/EXPLAIN.md): UTF-8 with no zero at its end, and
  * its length in bytes to `*written`. WRONG_LENGTH if `explained_len` is less: then `explained` stays unchanged. If memory runs out, OUT_OF_MEMORY,
  * or the output says so or is shorter. */
 uint32_t bpf_host_explain(const uint8_t *text, size_t text_len, const struct bpf_host_shape *shapes, size_t shapes_len, uint32_t context_size,
-                          char *explained, size_t explained_len, size_t *written);
+                          char *explained, size_t explained_len, size_t *written) BPF_HOST_NONNULL;
 
 /* CALLS FOR AN OBJECT FILE, as made by `clang -g -O2 -target bpf -c`. */
 
@@ -288,7 +313,7 @@ uint32_t bpf_host_explain(const uint8_t *text, size_t text_len, const struct bpf
  * program `bpf_object`, with the instruction and its line of C (a rule's slot is that of the text before lowering), and nothing else in `*object`
  * changed. */
 uint32_t bpf_host_read_object(const uint8_t *file, size_t file_len, const char *name, size_t name_len, uint32_t context_size,
-                              struct bpf_host_object *object, struct bpf_host_refused *refused);
+                              struct bpf_host_object *object, struct bpf_host_refused *refused) BPF_HOST_NONNULL;
 
 /* Makes the maps of an object that was read, by number and with their initial values, and loads its program, for a tenant that has no map, since a
  * text refers to maps by number. bpf_host_load loads a further program of the same file, from the text that is read under its name: its maps
@@ -296,17 +321,18 @@ uint32_t bpf_host_read_object(const uint8_t *file, size_t file_len, const char *
  * refers, even in an instruction that is never reached. Refused: CLOSED, WRONG_LENGTH if a length exceeds its array, HAS_MAPS, and what
  * bpf_host_create_map, bpf_host_update and bpf_host_load refuse. */
 uint32_t bpf_host_load_object(struct bpf_host *host, uint32_t tenant, const struct bpf_host_object *object, bool mergeable, uint32_t *program,
-                              struct bpf_host_refused *refused);
+                              struct bpf_host_refused *refused) BPF_HOST_NONNULL;
 
-/* Whether two objects that were read have the same maps by number: names, shapes and initial values. Then bpf_host_replace can put one in place of the
- * other. Their context sizes may differ. */
+/* Whether two objects that were read have the same maps by number: names, of less than 63 bytes, so that none was cut, shapes and initial values.
+ * Then bpf_host_replace can put one in place of the other. Their context sizes may differ. */
 static inline bool bpf_host_same_maps(const struct bpf_host_object *one, const struct bpf_host_object *other)
 {
-    bool same = one->maps_len == other->maps_len && one->maps_len <= 8;
+    bool same = one->maps_len == other->maps_len && one->maps_len <= BPF_HOST_MAX_MAPS;
     for (uint32_t number = 0; same && number < one->maps_len; number++) {
         const struct bpf_host_object_map *a = &one->maps[number], *b = &other->maps[number];
-        same = memcmp(a->name, b->name, sizeof a->name) == 0 && a->shape.value_size == b->shape.value_size && a->shape.entries == b->shape.entries &&
-               a->first_len == b->first_len && a->first_len <= sizeof a->first && memcmp(a->first, b->first, a->first_len) == 0;
+        same = memcmp(a->name, b->name, sizeof a->name) == 0 && a->name[sizeof a->name - 2] == 0 && a->shape.value_size == b->shape.value_size &&
+               a->shape.entries == b->shape.entries && a->first_len == b->first_len && a->first_len <= sizeof a->first &&
+               memcmp(a->first, b->first, a->first_len) == 0;
     }
     return same;
 }
@@ -324,7 +350,9 @@ static inline uint32_t bpf_host_replace(struct bpf_host *host, uint32_t tenant, 
     if (code != BPF_HOST_DONE)
         return code;
     /* The new number was free before, so no program had it. */
-    code = next == *program ? (uint32_t)BPF_HOST_NO_PROGRAM : bpf_host_unload(host, tenant, *program);
+    code = BPF_HOST_NO_PROGRAM;
+    if (next != *program)
+        code = bpf_host_unload(host, tenant, *program);
     if (code == BPF_HOST_DONE)
         *program = next;
     else
@@ -380,6 +408,10 @@ static inline const char *bpf_host_code_name(uint32_t code)
     default: return "Unknown";
     }
 }
+
+#if defined __cplusplus && defined __GNUC__
+#pragma GCC diagnostic pop
+#endif
 
 #ifdef __cplusplus
 }

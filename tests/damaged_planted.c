@@ -52,8 +52,8 @@ static void read_byte(const uint8_t *at)
 /* Adds 1 to the last byte of the last value of a tenant's first map, if it has so many: several changes don't undo each other. */
 static void change_map(struct bpf_host *host, uint32_t tenant, uint32_t values)
 {
-    struct bpf_host_shape shape;
-    struct bpf_host_refused ignored;
+    struct bpf_host_shape shape = {0};
+    struct bpf_host_refused ignored = {0};
     uint8_t value[LARGEST_VALUE];
     if (bpf_host_shape(host, tenant, 0, &shape) != 0 || shape.entries < values)
         return;
@@ -110,7 +110,7 @@ uint32_t __wrap_bpf_host_load(struct bpf_host *host, uint32_t tenant, const uint
 {
     static const uint8_t returns_0[] = {0xb7, 0, 0, 0, 0, 0, 0, 0, 0x95, 0, 0, 0, 0, 0, 0, 0};
     static uint8_t unsigned_text[LONGEST];
-    struct bpf_host_refused ignored;
+    struct bpf_host_refused ignored = {0};
     uint32_t other;
     uint32_t code = __real_bpf_host_load(host, tenant, text, text_len, context_size, program, refused);
     if (PLANT == 14 && code == 0) {

@@ -96,10 +96,10 @@ struct event {
 struct reply {
     enum kind kind;
     uint32_t code;
-    struct bpf_host_refused refused;
+    struct bpf_host_refused refused = {0};
     uint32_t number;    /* of a map or program */
     bool ended;
-    struct bpf_host_run run;
+    struct bpf_host_run run = {0};
     uint32_t len;
     uint8_t value[PAGE];
 };
@@ -153,7 +153,7 @@ static void run_many(struct side *side, const struct event *event, struct reply 
 {
     uint8_t contexts[RUNS * CONTEXT];
     uint64_t rets[RUNS] = {0};
-    size_t made;
+    size_t made = 0;
     for (uint32_t at = 0; at < RUNS * event->size; at++)
         contexts[at] = (uint8_t)(event->byte + at / event->size);
     reply->code = bpf_host_run_many(&side->host, event->tenant, event->number, contexts, RUNS * event->size, rets, RUNS, &made, &reply->refused);
@@ -187,7 +187,7 @@ static void visit(struct side *side, const struct event *event, struct reply *re
 static void apply(struct side *side, const struct event *event, struct reply *reply)
 {
     struct bpf_host *host = &side->host;
-    struct bpf_host_counters counters;
+    struct bpf_host_counters counters = {0};
     uint8_t bytes[PAGE];
     memset(reply, 0, sizeof *reply);
     memset(bytes, event->byte, sizeof bytes);

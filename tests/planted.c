@@ -43,7 +43,7 @@ static uint32_t next_tenant(uint32_t tenant)
 uint32_t __wrap_bpf_host_update(struct bpf_host *host, uint32_t tenant, uint32_t map, uint32_t key, const uint8_t *value, size_t value_len,
                                 struct bpf_host_refused *refused)
 {
-    struct bpf_host_refused ignored;
+    struct bpf_host_refused ignored = {0};
     if (PLANT == 1)
         __real_bpf_host_update(host, next_tenant(tenant), map, key, value, value_len, &ignored);
     return __real_bpf_host_update(host, tenant, map, key, value, value_len, refused);
@@ -51,7 +51,7 @@ uint32_t __wrap_bpf_host_update(struct bpf_host *host, uint32_t tenant, uint32_t
 
 uint32_t __wrap_bpf_host_lookup(struct bpf_host *host, uint32_t tenant, uint32_t map, uint32_t key, uint8_t *value, size_t value_len)
 {
-    struct bpf_host_counters counters;
+    struct bpf_host_counters counters = {0};
     uint32_t code = __real_bpf_host_lookup(host, tenant, map, key, value, value_len);
     if (PLANT == 2 && code == 0 && bpf_host_counters(host, &counters) == 0)
         value[0] = (uint8_t)counters.frames_free;
@@ -61,7 +61,7 @@ uint32_t __wrap_bpf_host_lookup(struct bpf_host *host, uint32_t tenant, uint32_t
 uint32_t __wrap_bpf_host_run(struct bpf_host *host, uint32_t tenant, uint32_t program, const uint8_t *context, size_t context_len,
                              struct bpf_host_run *run, struct bpf_host_refused *refused)
 {
-    struct bpf_host_counters counters;
+    struct bpf_host_counters counters = {0};
     if (PLANT == 6 || (PLANT == 4 && bpf_host_unload(host, next_tenant(tenant), NO_PROGRAM_HAS) == BUSY))
         return BUSY;
     uint32_t code = __real_bpf_host_run(host, tenant, program, context, context_len, run, refused);
@@ -73,7 +73,7 @@ uint32_t __wrap_bpf_host_run(struct bpf_host *host, uint32_t tenant, uint32_t pr
 uint32_t __wrap_bpf_host_run_many(struct bpf_host *host, uint32_t tenant, uint32_t program, const uint8_t *contexts, size_t contexts_len,
                                   uint64_t *rets, size_t rets_len, size_t *made, struct bpf_host_refused *refused)
 {
-    struct bpf_host_counters counters;
+    struct bpf_host_counters counters = {0};
     if (PLANT == 6 || (PLANT == 4 && bpf_host_unload(host, next_tenant(tenant), NO_PROGRAM_HAS) == BUSY))
         return BUSY;
     if (PLANT == 9 && rets_len > 0 && bpf_host_counters(host, &counters) == 0 && counters.pages_sharing > 0)

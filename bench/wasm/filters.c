@@ -9,7 +9,7 @@ static u32 histogram[64];
 static const int counter_map;
 static u8 context[256];
 
-void *bpf_map_lookup_elem(void *map, const void *key)
+__attribute__((noinline)) void *bpf_map_lookup_elem(void *map, const void *key)
 {
     u32 number = *(const u32 *)key;
     if (map == &counter_map)

@@ -18,7 +18,7 @@ enum { TENANTS = 16, FRAMES = 256, CONTEXT = 256, VISIT_EACH = 1024, VISITS = 64
 
 struct tenant {
     const char *name;
-    uint32_t program;
+    uint32_t program = 0;
     struct bpf_program expression;
     unsigned long accepted, wanted;
 };
@@ -45,6 +45,9 @@ static size_t read_hex(const char *path, uint8_t *text)
         fail(path, "can't be opened");
     while (len < MAX_HEX && fscanf(file, " %2x", &byte) == 1)
         text[len++] = (uint8_t)byte;
+    fscanf(file, " ");
+    if (!feof(file))
+        fail(path, "it is no hex text, or too long");
     fclose(file);
     return len;
 }
@@ -52,8 +55,8 @@ static size_t read_hex(const char *path, uint8_t *text)
 static void load(struct bpf_host *host, uint32_t number, struct tenant *tenant, const char *path)
 {
     static uint8_t text[MAX_HEX];
-    struct bpf_host_refused refused;
-    uint32_t map;
+    struct bpf_host_refused refused = {0};
+    uint32_t map = 0;
     size_t len = read_hex(path, text);
     tenant->name = path;
     check(bpf_host_create_map(host, number, 4096, 4, true, &map, &refused), "a map");
@@ -81,7 +84,8 @@ static struct packets read_packets(pcap_t *capture, struct tenant *tenants, uint
     struct packets all = {0};
     struct pcap_pkthdr *header;
     const u_char *bytes;
-    while (pcap_next_ex(capture, &header, &bytes) == 1) {
+    int found;
+    while ((found = pcap_next_ex(capture, &header, &bytes)) == 1) {
         if (all.len == all.room) {
             all.room = all.room ? 2 * all.room : 1024;
             all.contexts = realloc(all.contexts, all.room * CONTEXT);
@@ -92,15 +96,17 @@ static struct packets read_packets(pcap_t *capture, struct tenant *tenants, uint
         for (uint32_t t = 0; t < count; t++)
             tenants[t].wanted += pcap_offline_filter(&tenants[t].expression, header, bytes) != 0;
     }
+    if (found != PCAP_ERROR_BREAK)
+        fail("packets", pcap_geterr(capture));
     return all;
 }
 
 /* Runs each tenant's filter on each packet, while the scanner merges. */
 static void filter_all(struct bpf_host *host, struct tenant *tenants, uint32_t count, struct packets all)
 {
-    struct bpf_host_counters after;
-    struct bpf_host_refused refused;
-    struct bpf_host_run run;
+    struct bpf_host_counters after = {0};
+    struct bpf_host_refused refused = {0};
+    struct bpf_host_run run = {0};
     for (size_t p = 0; p < all.len; p++) {
         for (uint32_t t = 0; t < count; t++) {
             check(bpf_host_run(host, t, tenants[t].program, all.contexts[p], CONTEXT, &run, &refused), "a run");
@@ -124,7 +130,7 @@ int main(int argc, char **argv)
     char error[PCAP_ERRBUF_SIZE];
     struct bpf_host host = {0};
     struct bpf_host_options options = {.pages_to_scan = 100, .run = 1, .max_page_sharing = 256};
-    struct bpf_host_counters counters;
+    struct bpf_host_counters counters = {0};
     uint32_t count = (uint32_t)(argc - 2) / 2;
     int differs = 0;
     if (argc < 4 || argc % 2 != 0 || count > TENANTS)

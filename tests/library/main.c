@@ -82,8 +82,8 @@ void check_value(struct bpf_host *host, uint32_t tenant, uint32_t map, uint32_t 
 
 struct bpf_host_counters after_visits(struct bpf_host *host, uint32_t visits)
 {
-    struct bpf_host_counters after;
-    struct bpf_host_counters again;
+    struct bpf_host_counters after = {0};
+    struct bpf_host_counters again = {0};
     memset(&after, 0xee, sizeof after);
     CHECK(bpf_host_visit(host, visits, &after), 0);
     CHECK(bpf_host_counters(host, &again), 0);

@@ -28,7 +28,7 @@ static uint32_t read_object(size_t size, const char *name, uint32_t context_size
 /* A tenant has no map. */
 static void check_no_maps(struct bpf_host *host, uint32_t tenant)
 {
-    struct bpf_host_shape shape;
+    struct bpf_host_shape shape = {0};
     for (uint32_t map = 0; map < 8; map++)
         CHECK(bpf_host_shape(host, tenant, map, &shape), 34);
 }
@@ -110,7 +110,7 @@ static void test_named_map(void)
         0, 0, 0, 0, 0, 0, 0, 0, 0x95, 0, 0, 0, 0, 0, 0, 0};
     struct bpf_host host = {0};
     struct bpf_host_refused refused = {0, 0, 0};
-    struct bpf_host_shape shape;
+    struct bpf_host_shape shape = {0};
     uint32_t program = 99;
     open_host(&host, 8, 1);
     CHECK(bpf_host_load(&host, 0, names_map_0, sizeof names_map_0, 0, &program, &refused), 0);

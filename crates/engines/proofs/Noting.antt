@@ -2,6 +2,8 @@
 use Rattle.std.proofs.Common.{◌≡◌, ℕ, zero, suc, ◌≤◌, Bool, true, false, ◌||◌, List, [], ◌∷◌, ◌++◌, replicate, length, take, min, arith, ◌+◌, option_map, length-take, length-append, Option, Some, None, Result, Ok, Err, is_ok, OnOk, append_assoc, append-nil, sym, ap, ap₂, refl, ◌∙◌, subst, subst₂, unwrap_or, IfSome, IsSome, true≢false, if◌then◌else◌}
 use mir.Val.{bool_byte}
 use Rattle.std.specs.Io.KnownBytes.{Appends, Keeps}
+use Rattle.host_types.specs.OptionTable.{AreOptions}
+use Rattle.page_table.specs.Limits.{AreLimits}
 use Rattle.host_types.specs.declared.event.Event.{Event}
 use Rattle.host_types.specs.declared.event.Event.TheVariants.{Begin, Step, Visit}
 use Rattle.host_core.specs.declared.reply.Reply.{Reply}
@@ -440,20 +442,20 @@ byte-status false = refl
 
 -- a new session that performed all commands of a file
 pub replayed-performed : (file : HostFile) (old new : Session) (was is : Option (List ℕ)) (status : ℕ)
-    → StandsForSystem old.host (new_system file.frames file.tenants file.options) → old.begun.items ≡ replicate file.tenants 0
+    → AreLimits file.frames file.tenants × AreOptions file.options → StandsForSystem old.host (new_system file.frames file.tenants file.options) → old.begun.items ≡ replicate file.tenants 0
     → old.pages_to_scan ≡ file.options.pages_to_scan → old.has_refused ≡ false
     → HasPerformed (AreOfAll old.pages_to_scan file.commands) old new was is → status ≡ (if new.has_refused then 1 else 0) → IsReplayed file was is status
-replayed-performed file old new was is status stands begun pages clean performs printed =
+replayed-performed file old new was is status limits stands begun pages clean performs printed =
     let (events, replies, next, are, noted) = performs (new_system file.frames file.tenants file.options) stands in
-    happened events replies next (subst (λ p. AreOfAll p file.commands events replies) pages are) noted.happen
+    happened limits.0 limits.1 events replies next (subst (λ p. AreOfAll p file.commands events replies) pages are) noted.happen
     (printed ∙ ap (λ b. if b then 1 else 0) (noted.refused ∙ ap (λ b. b || has_refusal replies) clean))
     (subst (λ counts. Appends was is (lines_from counts events replies)) begun noted.written)
 
 -- an output that was passed on
 replayed-kept : (file : HostFile) (was half is : Option (List ℕ)) (status : ℕ) → Keeps half is → IsReplayed file was half status → IsReplayed file was is status
 replayed-kept file was half is status kept (refused fault why printed took) = refused fault why printed (Appends-kept was half is (line_of (refusal_text fault)) took kept)
-replayed-kept file was half is status kept (happened events replies w are happen printed took) =
-    happened events replies w are happen printed (Appends-kept was half is (lines_from (replicate file.tenants 0) events replies) took kept)
+replayed-kept file was half is status kept (happened frames options events replies w are happen printed took) =
+    happened frames options events replies w are happen printed (Appends-kept was half is (lines_from (replicate file.tenants 0) events replies) took kept)
 
 -- and where what was read is known
 pub replayed-read : (read : Option (List ℕ)) (file : HostFile) (was half is : Option (List ℕ)) (status : ℕ)

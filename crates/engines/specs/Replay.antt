@@ -3,7 +3,9 @@ use Rattle.std.specs.Prelude.{◌≡◌, ℕ, ◌-◌, suc, min, Bool, true, fal
 use Rattle.std.specs.Io.KnownBytes.{Appends}
 use Rattle.host_types.specs.declared.fault.Fault.{Fault}
 use Rattle.host_types.specs.declared.options.Opt.TheVariants.{PagesToScan}
+use Rattle.host_types.specs.OptionTable.{AreOptions}
 use Rattle.page_table.specs.Changes.{RefusesMemory}
+use Rattle.page_table.specs.Limits.{AreLimits}
 use Rattle.host_types.specs.declared.event.Event.{Event}
 use Rattle.host_types.specs.declared.event.Event.TheVariants.{Begin, Visit, Set}
 use Rattle.host_core.specs.declared.reply.Reply.{Reply}
@@ -102,9 +104,10 @@ abbrev pub status_after : List Reply → ℕ
 status_after replies = if has_refusal replies then 1 else 0
 
 -- A status and what an output took say what the events of a file did to a new host: the refusal of the host
--- itself, or the lines of the replies to the events of the file's commands, in their order.
+-- itself, or, of one within its limits, the lines of the replies to the events of the file's commands, in their order.
 pub data IsReplayed (file : HostFile) (old new : Option (List ℕ)) (status : ℕ) : Type 0 where
   refused : (fault : Fault) → RefusesMemory file.frames file.tenants file.options fault → status ≡ 1 → Appends old new (line_of (refusal_text fault)) → IsReplayed file old new status
-  happened : (events : List Event) (replies : List Reply) (x : System) → AreOfAll file.options.pages_to_scan file.commands events replies
+  happened : AreLimits file.frames file.tenants → AreOptions file.options
+      → (events : List Event) (replies : List Reply) (x : System) → AreOfAll file.options.pages_to_scan file.commands events replies
       → AllHappen (new_system file.frames file.tenants file.options) events replies x → status ≡ status_after replies
       → Appends old new (lines_from (replicate file.tenants 0) events replies) → IsReplayed file old new status

@@ -2,7 +2,9 @@
 
 ghost use Rattle.std.specs.Prelude.{◌≡◌, ◌<◌, ◌≤◌, length, IfErr, IfOk, IfSome, OnOk};
 ghost use Rattle.std.specs.Io.KnownBytes.{Appends};
+ghost use Rattle.host_types.specs.OptionTable.{AreOptions};
 ghost use Rattle.host_types.specs.Refusals.{refusal_text};
+ghost use Rattle.page_table.specs.Limits.{AreLimits};
 ghost use Rattle.host_core.specs.World.{new_system};
 ghost use Rattle.host_core.specs.HostView.{StandsForSystem};
 ghost use Rattle.host_file.specs.Faults.{IsBad};
@@ -142,7 +144,8 @@ fn replay_commands<W: Write, E: Write, V: Watch>(
     diagnostics: &mut E,
     watch: &mut V,
 ) -> Result<u8, FileFault>
-    requires { StandsForSystem host (new_system file.now.frames file.now.tenants file.now.options) }
+    requires host { StandsForSystem host (new_system file.now.frames file.now.tenants file.now.options) }
+    requires limits { AreLimits file.now.frames file.now.tenants × AreOptions file.now.options }
     ensures replayed { IfOk result (IsReplayed file.now (W.contents writer.old) (W.contents writer.new)) }
     ensures fault { IfErr result (λ fault. ¬ IsBad fault) }
 {

@@ -54,7 +54,7 @@ drops_of t zero = []
 drops_of t (suc n) = drops_of t n ++ DropMap t n ∷ []
 
 -- What happens to the host: all events of the object, and the last reply is that to its program. Or it stops at the first that is refused, and
--- then the tenant's eight maps are dropped.
+-- then each of the tenant's eight maps is to be dropped: one that an older program names stays.
 abbrev pub LoadsObject : ℕ → Bool → BpfHostObject → Reply → HostView → HostView → Type 0
 LoadsObject t mergeable object (Refused fault) old new =
     (between : HostView) × HappenUpTo (events_of_object t mergeable object) (Some fault) old between

@@ -133,14 +133,15 @@ opened-homes commands old new fresh opened =
 -- the command at an index was refused
 pub stopped-at : (commands : List Command) (index : ℕ) (command : Command) (event : Event) (fault : Fault) (old half : List TenantPlan)
     → index < length commands → command ≡ get_or commands index command → command ≡ Apply event → All IsNewPlan old
-    → HaveOpened (take index commands) old half → RefusesOpening (map home_of half) event fault → IsStopped (length old) commands event fault
-stopped-at commands index command event fault old half within is names fresh opened refuses = record {
+    → HaveOpened (take index commands) old half → All IsSettable (take index commands) → RefusesOpening (map home_of half) event fault → IsStopped (length old) commands event fault
+stopped-at commands index command event fault old half within is names fresh opened settable refuses = record {
   front = take index commands;
   rest = drop (index + 1) commands;
   stands = split-at commands index command within ∙ ap (λ c. take index commands ++ c ∷ drop (index + 1) commands) (sym is ∙ names);
   homes = map home_of half;
   as_many = length-map half home_of ∙ opened.as_many;
   opened = opened-homes (take index commands) old half fresh opened;
+  settable = settable;
   refused = refuses;
 }
 

@@ -3,6 +3,8 @@ use Rattle.std.proofs.Common.{◌≡◌, ◌∙◌, ◌<◌, ◌≤◌, inl, inr
 use Rattle.std.specs.Prelude.{IfSome, slice_get}
 use Rattle.std.specs.Io.KnownBytes.{Appends, Keeps}
 use Rattle.std.proofs.lemmas.List.{length-map}
+use Rattle.host_types.specs.OptionTable.{AreOptions}
+use Rattle.page_table.specs.Limits.{AreLimits}
 use Rattle.host_types.specs.declared.fault.Fault.{Fault}
 use Rattle.host_types.specs.declared.event.Event.{Event}
 use Rattle.host_core.specs.declared.reply.Reply.{Reply}
@@ -101,34 +103,36 @@ one-most false = omega arith
 -- the status is 0 or 1
 pub status_few : (file : HostFile) (status : ℕ) (was is : Option (List ℕ)) → IsServedSo file status was is → status ≤ 1
 status_few file status was is (unserved fault refuses one written) = omega (arith, one)
-status_few file status was is (stopped event fault why one written) = omega (arith, one)
-status_few file status was is (served outcomes settable many each printed) = subst (λ s. s ≤ 1) (sym printed.noted) (one-most (print_refusal (tellings_of file.commands outcomes printed.answers)))
+status_few file status was is (stopped frames options event fault why one written) = omega (arith, one)
+status_few file status was is (served frames options outcomes settable many each printed) = subst (λ s. s ≤ 1) (sym printed.noted) (one-most (print_refusal (tellings_of file.commands outcomes printed.answers)))
 
 -- the opening stopped, and that was reported
-pub stopped-so : {E : Type 0} (result : Result ℕ E) (file : HostFile) (event : Event) (fault : Fault) (was is : Option (List ℕ)) → IsStopped file.tenants file.commands event fault
+pub stopped-so : {E : Type 0} (result : Result ℕ E) (file : HostFile) (event : Event) (fault : Fault) (was is : Option (List ℕ))
+    → AreLimits file.frames file.tenants × AreOptions file.options → IsStopped file.tenants file.commands event fault
     → IfOk result (λ status. status ≡ 1) → OnOk result (Appends was is (reply_lines event 0 (Refused fault))) → IfOk result (λ status. IsServedSo file status was is)
-stopped-so (Ok status) file event fault was is why one written = stopped event fault why one written
-stopped-so (Err e) file event fault was is why one written = tt
+stopped-so (Ok status) file event fault was is limits why one written = stopped limits.0 limits.1 event fault why one written
+stopped-so (Err e) file event fault was is limits why one written = tt
 
 -- all were served, and what came of them was reported
-pub served-so : {E : Type 0} (result : Result ℕ E) (file : HostFile) (first opened planned new : List TenantPlan) (was is : Option (List ℕ)) → length first ≡ file.tenants → All IsSettable file.commands
+pub served-so : {E : Type 0} (result : Result ℕ E) (file : HostFile) (first opened planned new : List TenantPlan) (was is : Option (List ℕ))
+    → AreLimits file.frames file.tenants × AreOptions file.options → length first ≡ file.tenants → All IsSettable file.commands
     → All IsNewPlan first → HaveOpened file.commands first opened → HaveRuns file.commands opened planned → AreServed planned new
     → IfOk result (λ status. ArePrinted file.commands (map outcome_of new) status was is) → IfOk result (λ status. IsServedSo file status was is)
-served-so (Ok status) file first opened planned new was is many settable fresh open_so run_so each printed =
-    served (map outcome_of new) settable (length-map new outcome_of ∙ served-many planned new each ∙ run_so.as_many ∙ open_so.as_many ∙ many)
+served-so (Ok status) file first opened planned new was is limits many settable fresh open_so run_so each printed =
+    served limits.0 limits.1 (map outcome_of new) settable (length-map new outcome_of ∙ served-many planned new each ∙ run_so.as_many ∙ open_so.as_many ∙ many)
     (served-each file.commands first opened planned new fresh open_so run_so each) printed
-served-so (Err e) file first opened planned new was is many settable fresh open_so run_so each printed = tt
+served-so (Err e) file first opened planned new was is limits many settable fresh open_so run_so each printed = tt
 
 -- the same, by the lists as they stand in the plan
 pub served-through : {E : Type 0} (result : Result ℕ E) (file : HostFile) (commands : List Command) (items first opened half planned new last beyond further : List TenantPlan) (count : ℕ) (was is : Option (List ℕ))
-    → commands ≡ file.commands → length items ≡ file.tenants → All IsSettable commands → All IsNewPlan items → first ≡ items → length first ≡ count
+    → AreLimits file.frames file.tenants × AreOptions file.options → commands ≡ file.commands → length items ≡ file.tenants → All IsSettable commands → All IsNewPlan items → first ≡ items → length first ≡ count
     → HaveOpened commands first opened → half ≡ take count (opened ++ beyond) → HaveRuns commands half planned → AreServed (take count (planned ++ further)) new → last ≡ new
     → IfOk result (λ status. ArePrinted commands (map outcome_of last) status was is) → IfOk result (λ status. IsServedSo file status was is)
-served-through result file commands items first opened half planned new last beyond further count was is same many settable fresh first_is counted open_so half_is run_so each last_is printed =
+served-through result file commands items first opened half planned new last beyond further count was is limits same many settable fresh first_is counted open_so half_is run_so each last_is printed =
     let opened_many : length opened ≡ count = open_so.as_many ∙ counted in
     let half_same = half_is ∙ take_at opened beyond count opened_many in
     let planned_many : length planned ≡ count = run_so.as_many ∙ ap length half_same ∙ opened_many in
-    served-so result file items opened planned new was is many (subst (All IsSettable) same settable) fresh
+    served-so result file items opened planned new was is limits many (subst (All IsSettable) same settable) fresh
     (subst₂ (λ cs plans. HaveOpened cs plans opened) same first_is open_so)
     (subst₂ (λ cs plans. HaveRuns cs plans planned) same half_same run_so)
     (subst (λ plans. AreServed plans new) (take_at planned further count planned_many) each)
@@ -148,9 +152,9 @@ appends-kept (Some known) (Some more) (Some all) xs kept appended = kept ∙ app
 
 served-kept : (file : HostFile) (was half is : Option (List ℕ)) (status : ℕ) → Keeps half is → IsServedSo file status was half → IsServedSo file status was is
 served-kept file was half is status kept (unserved fault refuses one written) = unserved fault refuses one (appends-kept was half is _ kept written)
-served-kept file was half is status kept (stopped event fault why one written) = stopped event fault why one (appends-kept was half is _ kept written)
-served-kept file was half is status kept (served outcomes settable many each printed) =
-    served outcomes settable many each record { answers = printed.answers; looked_up = printed.looked_up; noted = printed.noted; written = appends-kept was half is _ kept printed.written }
+served-kept file was half is status kept (stopped frames options event fault why one written) = stopped frames options event fault why one (appends-kept was half is _ kept written)
+served-kept file was half is status kept (served frames options outcomes settable many each printed) =
+    served frames options outcomes settable many each record { answers = printed.answers; looked_up = printed.looked_up; noted = printed.noted; written = appends-kept was half is _ kept printed.written }
 
 -- the file that was read was served
 pub served-read : (read : Option (List ℕ)) (file : HostFile) (was half is : Option (List ℕ)) (status : ℕ)

@@ -1,6 +1,6 @@
 -- What each tenant has when no thread has started yet (docs/HOST.md): a function of the file's commands, but for the
 -- programs, which are those that were accepted.
-use Rattle.std.specs.Prelude.{◌≡◌, ◌≢◌, ◌++◌, ◌<◌, ℕ, List, [], ◌∷◌, length, get_or, slice_get, fold, IfSome, IsSomeAnd, MatchOption, Some}
+use Rattle.std.specs.Prelude.{◌≡◌, ◌≢◌, ◌++◌, ◌<◌, ℕ, All, List, [], ◌∷◌, length, get_or, slice_get, fold, IfSome, IsSomeAnd, MatchOption, Some}
 use Rattle.host_types.specs.declared.fault.Fault.{Fault}
 use Rattle.host_types.specs.declared.fault.Fault.TheVariants.{BadOption, BadTenant}
 use Rattle.host_types.specs.Tenant.{TenantPart}
@@ -111,7 +111,8 @@ abbrev pub RefusesOpening : List Home → Event → Fault → Type 0
 RefusesOpening homes event fault =
     MatchOption (tenant_of event) (RefusesSetting event fault) (λ t. MatchOption (slice_get homes t) (fault ≡ BadTenant) (λ home. RefusesGift event home fault))
 
--- Of so many tenants' commands an event was refused, when each tenant had just what the commands before it gave it.
+-- Of so many tenants' commands an event was refused, the first one: each tenant had just what the commands before it gave
+-- it, and none of these sets an option to a value that it can't have.
 pub record IsStopped (tenants : ℕ) (commands : List Command) (event : Event) (fault : Fault) : Type 0 where
   pub front : List Command
   pub rest : List Command
@@ -119,6 +120,7 @@ pub record IsStopped (tenants : ℕ) (commands : List Command) (event : Event) (
   pub homes : List Home
   pub as_many : length homes ≡ tenants
   pub opened : (t : ℕ) → IfSome (slice_get homes t) (AreOpenedFor t front first_home)
+  pub settable : All IsSettable front
   pub refused : RefusesOpening homes event fault
 
 -- the memory with other options

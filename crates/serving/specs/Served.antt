@@ -2,9 +2,11 @@
 use Rattle.std.specs.Prelude.{◌≡◌, ◌⊎◌, ℕ, List, All, Any, ◌++◌, length, map, slice_get, IfSome, Option, Result, if◌then◌else◌}
 use Rattle.std.specs.Io.KnownBytes.{Appends}
 use Rattle.host_types.specs.declared.fault.Fault.{Fault}
+use Rattle.host_types.specs.OptionTable.{AreOptions}
 use Rattle.host_types.specs.Refusals.{refusal_text}
 use Rattle.host_types.specs.Tenant.{TenantPart}
 use Rattle.page_table.specs.Changes.{RefusesMemory}
+use Rattle.page_table.specs.Limits.{AreLimits}
 use Rattle.turn.specs.Seats.{SeatState, own_part}
 use Rattle.tenant_runs.specs.declared.answers.RunReply.{RunReply}
 use Rattle.tenant_workers.specs.Plans.{AreAnswered}
@@ -61,11 +63,12 @@ pub record ArePrinted (commands : List Command) (outcomes : List TenantOutcome) 
   pub written : Appends old new (all_printed (tellings_of commands outcomes answers))
 
 -- A status and what an output took say how a file was served: the refusal of the memory, or of its threads where
--- memory ran out; the first refusal before a thread starts; or, where none was refused, what came of each tenant.
+-- memory ran out; or, of a file within its limits, the first refusal before a thread starts, or what came of each tenant
+-- where none was refused.
 pub data IsServedSo (file : HostFile) (status : ℕ) (old new : Option (List ℕ)) : Type 0 where
   unserved : (fault : Fault) → RefusesMemory file.frames file.tenants file.options fault → status ≡ 1
       → Appends old new (line_of (refusal_text fault)) → IsServedSo file status old new
-  stopped : (event : Event) (fault : Fault) → IsStopped file.tenants file.commands event fault → status ≡ 1
+  stopped : AreLimits file.frames file.tenants → AreOptions file.options → (event : Event) (fault : Fault) → IsStopped file.tenants file.commands event fault → status ≡ 1
       → Appends old new (reply_lines event 0 (Refused fault)) → IsServedSo file status old new
-  served : (outcomes : List TenantOutcome) → All IsSettable file.commands → length outcomes ≡ file.tenants → ((t : ℕ) → IfSome (slice_get outcomes t) (IsServedTenant file.commands t))
+  served : AreLimits file.frames file.tenants → AreOptions file.options → (outcomes : List TenantOutcome) → All IsSettable file.commands → length outcomes ≡ file.tenants → ((t : ℕ) → IfSome (slice_get outcomes t) (IsServedTenant file.commands t))
       → ArePrinted file.commands outcomes status old new → IsServedSo file status old new

@@ -10,12 +10,12 @@ use Rattle.tenant_runs.specs.UnderWay.{HasRun}
 use Rattle.turn.specs.Seats.{SeatState, own_part}
 use Rattle.tenant_workers.specs.Calls.{HasGoneOn, memory_left}
 use Rattle.tenant_workers.specs.Replies.{RepliesTo, RepliesBy, AllReply}
-use Rattle.tenant_workers.specs.Runs.{HasFramesForRun, HasRefusedRun, RefusesRunOnContext}
+use Rattle.tenant_workers.specs.Runs.{HasFramesForRun, LeavesMemory, RefusesRunOnContext}
 
 -- what a run was answered, by each of its clauses
 pub replies_to : (v : Accepted) (context : List ℕ) (old new : SeatState) (reply : Result RunReply Fault) → HasGoneOn old new → IfOk reply (HasRun v context (own_part old) (own_part new))
     → IfErr reply (RefusesRunOnContext v context (own_part old)) → IfErr reply (NamesHave (memory_left new)) → IfErr reply (HasFramesForRun v (own_part old) (memory_left new))
-    → OnErr reply (own_part new ≡ own_part old) → IfErr reply (HasRefusedRun old new) → RepliesTo v context old reply new
+    → OnErr reply (own_part new ≡ own_part old) → IfErr reply (LeavesMemory old new) → RepliesTo v context old reply new
 replies_to v context old new (Ok reply) turns ran refused reported enough kept turn = record { ran = ran; turns = turns }
 replies_to v context old new (Err fault) turns ran refused reported enough kept turn = record { refused = refused; kept = kept; turn = turn; reported = reported; enough = enough }
 

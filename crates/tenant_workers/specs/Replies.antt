@@ -8,7 +8,7 @@ use Rattle.tenant_runs.specs.declared.answers.RunReply.{RunReply}
 use Rattle.tenant_runs.specs.UnderWay.{HasRun}
 use Rattle.turn.specs.Seats.{SeatState, own_part}
 use Rattle.tenant_workers.specs.Calls.{HasGoneOn, memory_left}
-use Rattle.tenant_workers.specs.Runs.{HasFramesForRun, HasRefusedRun, RefusesRunOnContext}
+use Rattle.tenant_workers.specs.Runs.{HasFramesForRun, LeavesMemory, RefusesRunOnContext}
 
 -- A run was made, from the part that the seat had to the part that it has.
 pub record IsRunMade (v : Accepted) (context : List ℕ) (old : SeatState) (reply : RunReply) (new : SeatState) : Type 0 where
@@ -20,7 +20,7 @@ pub record IsRunMade (v : Accepted) (context : List ℕ) (old : SeatState) (repl
 pub record IsNotMade (v : Accepted) (context : List ℕ) (old : SeatState) (fault : Fault) (new : SeatState) : Type 0 where
   pub refused : RefusesRunOnContext v context (own_part old) fault
   pub kept : own_part new ≡ own_part old
-  pub turn : HasRefusedRun old new fault
+  pub turn : LeavesMemory old new fault
   pub reported : NamesHave (memory_left new) fault
   pub enough : HasFramesForRun v (own_part old) (memory_left new) fault
 

@@ -40,9 +40,9 @@ RefusesRunOnContext v context owned fault =
     ((fault ≡ BadContext) × (length context ≢ v.subject.context_size))
     ⊎ ((length context ≡ v.subject.context_size) × (RefusesRunOfTenant v owned fault ⊎ LacksMemory v owned fault))
 
--- The turn in which a run was refused left the memory as it found it. A context of another size takes no turn.
-abbrev pub HasRefusedRun : SeatState → SeatState → Fault → Type 0
-HasRefusedRun old new fault = ((fault ≡ BadContext) × (new ≡ old)) ⊎ HasChanged IsUnchanged old new
+-- The turn in which a run or a load was refused left the memory as it found it. A context of another size takes no turn.
+abbrev pub LeavesMemory : SeatState → SeatState → Fault → Type 0
+LeavesMemory old new fault = ((fault ≡ BadContext) × (new ≡ old)) ⊎ HasChanged IsUnchanged old new
 
 -- where memory ran out, frames were not missing
 abbrev pub HasFramesForRun : Accepted → TenantPart → MemoryState → Fault → Type 0

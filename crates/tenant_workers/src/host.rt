@@ -66,13 +66,14 @@ impl Shared {
         answer
     }
 
-    /// What is reported of pages that share frames, at one moment. No tenant's part changes.
+    /// What is reported of pages that share frames, at one moment. The memory stays as it is.
     pub fn counters(&self, rt: &impl Wait, seat: &mut HostSeat) -> Counters
         requires idle { IsIdle self.now seat.old }
         ensures idle { IsIdle self.now seat.new }
         ensures same { IsSameSeat seat.old seat.new }
         ensures reported { result ≡ counters_of (length (memory_left seat.new).arena)
             (contents_now (memory_left seat.new)) (memory_left seat.new).sharing }
+        ensures unchanged { HasChanged IsUnchanged seat.old seat.new }
     {
         let held = self.turn.take(rt, seat);
         let counters = ksm_counters::counters(held.memory());

@@ -125,7 +125,7 @@ impl Shared {
         answer
     }
 
-    /// The value of an element of a map of the seat's tenant. The seat's part stays.
+    /// The value of an element of a map of the seat's tenant. The memory stays as it is.
     ///
     /// Refusals in their order: `NoMap` where the tenant has no such map, `NoElement` where the map has no
     /// such element, `OutOfMemory` where memory ran out; `BadTenant` never, as a seat's tenant is there.
@@ -143,6 +143,7 @@ impl Shared {
         ensures kept { own_part seat.new ≡ own_part seat.old }
         ensures value { IfOk result (λ bytes. IsValue (own_part seat.old) map key bytes.items) }
         ensures refused { IfErr result (RefusesLookup (own_part seat.old) map key) }
+        ensures unchanged { HasChanged IsUnchanged seat.old seat.new }
     {
         let tenant = seat.tenant();
         let held = self.turn.take(rt, seat);

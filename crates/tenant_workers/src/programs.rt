@@ -1,9 +1,10 @@
-ghost use Rattle.std.specs.Prelude.{◌≡◌, IfOk, IfErr};
+ghost use Rattle.std.specs.Prelude.{◌≡◌, IfOk, IfErr, OnOk};
 ghost use Rattle.bpf_decode.specs.Text.{IsWellFormed};
 ghost use Rattle.verifier.specs.Verified.{AreShapes, IsVerified};
 ghost use Rattle.host_calls.specs.Programs.{RefusesProgram, shapes_of, subject_of};
 ghost use Rattle.turn.specs.Seats.{IsIdle, own_part};
-ghost use Rattle.tenant_workers.specs.Calls.{IsSameSeat};
+ghost use Rattle.tenant_workers.specs.Calls.{HasChanged, IsSameSeat, IsUnchanged};
+ghost use Rattle.tenant_workers.specs.Runs.{LeavesMemory};
 
 use crate::shared::Shared;
 use host_calls::{decode_and_verify, host_shapes};
@@ -16,7 +17,7 @@ use verifier::{Verified, is_context_size};
 
 impl Shared {
     /// Verifies a text as a program of the seat's tenant, with the maps that it has and a context of so many
-    /// bytes. The seat's part stays, and no turn is held while the text is verified.
+    /// bytes. The memory stays as it is: one turn asks it for shapes, and no turn is held while the text is verified.
     ///
     /// Refusals in their order: `BadContext` where the context's size is above 256 or no multiple of 8, the
     /// text's first fault (`BadLength` to `CutWide`), or else the first rule that it breaks (`BackJump` to
@@ -37,6 +38,8 @@ impl Shared {
         ensures well_formed { IfOk result (λ _. IsWellFormed text.now) }
         ensures verified { IfOk result IsVerified }
         ensures refused { IfErr result (RefusesProgram (subject_of (own_part seat.old) text.now ctx_size)) }
+        ensures asked { OnOk result (HasChanged IsUnchanged seat.old seat.new) }
+        ensures unchanged { IfErr result (LeavesMemory seat.old seat.new) }
     {
         if !is_context_size(ctx_size) {
             return Err(Fault::BadContext);
@@ -53,6 +56,7 @@ impl Shared {
         ensures kept { own_part seat.new ≡ own_part seat.old }
         ensures shapes { result ≡ shapes_of (own_part seat.old).maps }
         ensures valid { AreShapes result }
+        ensures unchanged { HasChanged IsUnchanged seat.old seat.new }
     {
         let tenant = seat.tenant();
         let held = self.turn.take(rt, seat);

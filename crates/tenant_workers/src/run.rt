@@ -8,7 +8,7 @@ ghost use Rattle.host_calls.specs.Calls.{IsThere, NamesHave};
 ghost use Rattle.tenant_runs.specs.UnderWay.{HasRun};
 ghost use Rattle.turn.specs.Seats.{IsIdle, own_part};
 ghost use Rattle.tenant_workers.specs.Calls.{HasChanged, HasGoneOn, IsSameSeat, IsUnchanged, memory_left};
-ghost use Rattle.tenant_workers.specs.Runs.{HasFramesForRun, HasRefusedRun, IsFresh, IsResting, LacksMemory, RefusesRunOnContext, RefusesRunOfTenant};
+ghost use Rattle.tenant_workers.specs.Runs.{HasFramesForRun, LeavesMemory, IsFresh, IsResting, LacksMemory, RefusesRunOnContext, RefusesRunOfTenant};
 
 use crate::gate::Gate;
 use crate::shared::Shared;
@@ -88,7 +88,7 @@ impl Shared {
         ensures reported { IfErr result (NamesHave (memory_left seat.new)) }
         ensures enough { IfErr result (HasFramesForRun program.now (own_part seat.old) (memory_left seat.new)) }
         ensures kept { OnErr result (own_part seat.new ≡ own_part seat.old) }
-        ensures unchanged { IfErr result (HasRefusedRun seat.old seat.new) }
+        ensures unchanged { IfErr result (LeavesMemory seat.old seat.new) }
     {
         match Run::begin(alloc, program, context) {
             Ok(run) => self.run(rt, seat, program, run, gate),

@@ -72,7 +72,7 @@ static void begin(void)
 
 static void step(uint64_t steps)
 {
-    struct bpf_host_run run;
+    struct bpf_host_run run = {0};
     bool ended = false;
     if (!is_refused(bpf_host_step(&host, number(1), steps, &ended, &run), true) && ended)
         print_ended(&run);
@@ -80,7 +80,7 @@ static void step(uint64_t steps)
 
 static void run_whole(void)
 {
-    struct bpf_host_run run;
+    struct bpf_host_run run = {0};
     size_t length = hex(3);
     if (is_refused(bpf_host_run(&host, number(1), number(2), bytes, length, &run, &refused), true))
         return;
@@ -102,7 +102,7 @@ static void lookup(void)
 
 static void print_counters(void)
 {
-    struct bpf_host_counters c;
+    struct bpf_host_counters c = {0};
     is_refused(bpf_host_counters(&host, &c), false);
     printf("pages_shared %u\npages_sharing %u\npages_unshared %u\npages_volatile %u\nfull_scans %" PRIu64 "\n", c.pages_shared, c.pages_sharing,
            c.pages_unshared, c.pages_volatile, c.full_scans);
@@ -136,7 +136,7 @@ static void make_tenants_event(void)
 
 static void make_event(void)
 {
-    struct bpf_host_counters after;
+    struct bpf_host_counters after = {0};
     if (strcmp(words[0], "host") == 0)
         open_host();
     else if (strcmp(words[0], "end") == 0) {

@@ -148,7 +148,7 @@ static void list_of_calls(void)
     struct bpf_host_options options = BPF_HOST_OPTIONS;
     struct bpf_host_refused refused = {0, 0, 0};
     struct bpf_host_run run = {0, 0};
-    struct bpf_host_counters counters;
+    struct bpf_host_counters counters = {0};
     uint8_t found[8] = {0};
     uint32_t number = 9;
     bool ended = false;
@@ -197,7 +197,7 @@ static void runs_take_no_memory(void)
     struct bpf_host_options options = BPF_HOST_OPTIONS;
     struct bpf_host_refused refused = {0, 0, 0};
     uint8_t context[64] = {0};
-    uint32_t number;
+    uint32_t number = 0;
     wanted(bpf_host_new(8, 1, &options, &host) == 0, "no host");
     wanted(bpf_host_create_map(&host, 0, 8, 1, true, &number, &refused) == 0, "no map");
     wanted(bpf_host_load(&host, 0, answer, sizeof answer, 64, &number, &refused) == 0, "the answer isn't loaded");

@@ -45,8 +45,8 @@ int main(int words, char **word)
     static uint8_t bytes[1 << 16];
     struct bpf_host host = {0};
     struct bpf_host_options options = BPF_HOST_OPTIONS;
-    struct bpf_host_refused refused;
-    uint32_t program;
+    struct bpf_host_refused refused = {0};
+    uint32_t program = 0;
     FILE *file = words > 1 ? fopen(word[1], "rb") : NULL;
     size_t len = file ? fread(bytes, 1, sizeof bytes, file) : 0;
     if (file)
@@ -55,7 +55,7 @@ int main(int words, char **word)
     must(bpf_host_new(8, 1, &options, &host));
     must(bpf_host_load_object(&host, 0, &object, false, &program, &refused));
     for (size_t row = 0; row < sizeof ROWS / sizeof *ROWS; row++) {
-        struct bpf_host_run run;
+        struct bpf_host_run run = {0};
         must(bpf_host_run(&host, 0, program, (const uint8_t *)&ROWS[row].request, sizeof(struct request), &run, &refused));
         if (run.ret != ROWS[row].answer) {
             printf("requests: row %zu answers %llu\n", row, (unsigned long long)run.ret);

@@ -32,7 +32,7 @@ static size_t text_of(const char *hex, uint8_t *bytes)
 static unsigned open_counters(struct bpf_host *host)
 {
     struct bpf_host_options options = BPF_HOST_OPTIONS;
-    struct bpf_host_refused refused;
+    struct bpf_host_refused refused = {0};
     uint8_t text[256];
     size_t length = text_of(COUNTER, text);
     uint32_t made;
@@ -48,7 +48,7 @@ static unsigned open_counters(struct bpf_host *host)
 static unsigned run_wrong(struct bpf_host *host, uint32_t tenant, uint64_t count)
 {
     struct bpf_host_run run = {0, 0};
-    struct bpf_host_refused refused;
+    struct bpf_host_refused refused = {0};
     uint8_t none[1] = {0};
     uint32_t code = bpf_host_run(host, tenant, 0, none, 0, &run, &refused);
     return code != 0 || run.ret != count || run.steps != 11;
@@ -66,7 +66,7 @@ static void *work(void *given)
 {
     struct worker *worker = given;
     struct bpf_host *host = &worker->host;
-    struct bpf_host_counters after;
+    struct bpf_host_counters after = {0};
     for (uint32_t number = 0; number < RUNS; number++) {
         worker->wrong += run_wrong(host, number % TENANTS, number / TENANTS + 1);
         if (number % 64 == 0) {

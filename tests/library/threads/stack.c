@@ -47,20 +47,23 @@ static void make(void)
     CHECK(bpf_host_create_map(&host, 0, 8, 1, true, &number, &refused), 0);
 }
 
+/* No map: an empty buffer needs a pointer, too. */
+static const struct bpf_host_shape no_shape = {0, 0};
+
 /* Branches on the context's first word, each to the end: each slot has a description of its own. */
 static void load(void)
 {
     CHECK(bpf_host_load(&host, 0, branches[0], sizeof branches, 64, &number, &refused), 0);
     CHECK(bpf_host_load(&host, 0, COUNT[0], sizeof COUNT, 0, &number, &refused), 0);
-    CHECK(bpf_host_verify(branches[0], sizeof branches, NULL, 0, 64, &refused), 0);
+    CHECK(bpf_host_verify(branches[0], sizeof branches, &no_shape, 0, 64, &refused), 0);
 }
 
 static void run(void)
 {
     static const uint8_t context[64];
     struct bpf_host_run ended = {0, 0};
-    uint64_t rets[2];
-    size_t made;
+    uint64_t rets[2] = {0, 0};
+    size_t made = 0;
     CHECK(bpf_host_run(&host, 0, 0, context, 64, &ended, &refused), 0);
     CHECK(bpf_host_run(&host, 0, 1, context, 0, &ended, &refused), 0);
     CHECK(bpf_host_run_many(&host, 0, 1, context, 0, rets, 2, &made, &refused), 0);
@@ -69,7 +72,7 @@ static void run(void)
 
 static void visit(void)
 {
-    struct bpf_host_counters after;
+    struct bpf_host_counters after = {0};
     uint8_t value[8] = {0};
     CHECK(bpf_host_visit(&host, 8, &after), 0);
     CHECK(bpf_host_lookup(&host, 0, 0, 0, value, sizeof value), 0);
@@ -80,8 +83,8 @@ static void visit(void)
 static void lower(void)
 {
     size_t size = 50 * sizeof *text;
-    CHECK(bpf_host_lower(text[0], size, NULL, 0, 64, lowered[0], sizeof lowered, &written, &refused), 0);
-    CHECK(bpf_host_explain(text[0], size, NULL, 0, 64, words, sizeof words, &written), 0);
+    CHECK(bpf_host_lower(text[0], size, &no_shape, 0, 64, lowered[0], sizeof lowered, &written, &refused), 0);
+    CHECK(bpf_host_explain(text[0], size, &no_shape, 0, 64, words, sizeof words, &written), 0);
 }
 
 static void read_object(void)

@@ -8,7 +8,7 @@ use Rattle.serving.proofs.file.serve_plan.Goals as goal
 pub returns-in-Err-clause-served : goal.returns-in-Err-clause-served
 returns-in-Err-clause-served g c =
     let many = ap length c.deref_mut.ensures.value ∙ c.requires.count in
-    stopped-so c.print_stop.result c.args.file.now c.in-Err.stop.event.now c.in-Err.stop.fault (g.W.Write.contents c.args.writer.now) (g.W.Write.contents c.print_stop.new.writer)
+    stopped-so c.print_stop.result c.args.file.now c.in-Err.stop.event.now c.in-Err.stop.fault (g.W.Write.contents c.args.writer.now) (g.W.Write.contents c.print_stop.new.writer) c.requires.limits
     (subst₂ (λ count commands. IsStopped count commands c.in-Err.stop.event.now c.in-Err.stop.fault) many c.as_slice-commands.ensures c.in-Err.ensures.stopped)
     c.print_stop.ensures.status c.print_stop.ensures.written
 
@@ -21,7 +21,7 @@ pub returns-clause-served : goal.returns-clause-served
 returns-clause-served g c =
     served-through c.print_served.result c.args.file.now c.as_slice-commands.result.now c.args.plan.now.tenants.items c.deref_mut.result.now c.open_all.new.plans c.deref_mut-2.result.now
     c.add_runs.new.plans c.serve.new.plan.tenants.items c.deref_mut-3.result.now _ _ c.args.plan.now.tenants.len
-    (g.W.Write.contents c.args.writer.now) (g.W.Write.contents c.print_served.new.writer)
+    (g.W.Write.contents c.args.writer.now) (g.W.Write.contents c.print_served.new.writer) c.requires.limits
     c.as_slice-commands.ensures c.requires.count c.in_default.ensures.settable c.requires.new c.deref_mut.ensures.value c.deref_mut.ensures.len
     c.in_default.ensures.opened c.deref_mut-2.ensures.value
     (of-no_err c.add_runs.result (sym c.is_err.ensures.value ∙ c.if-is_err.false) c.add_runs.ensures.planned)

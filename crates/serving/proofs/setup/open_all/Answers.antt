@@ -31,7 +31,7 @@ loop-number-preserved-in_default g c = record {
 pub returns-in-Err-clause-stopped : goal.returns-in-Err-clause-stopped
 returns-in-Err-clause-stopped g c =
     stopped-at c.args.commands.now c.loop-number.number c.index-commands-number.result c.in-Apply.event c.in-Err.fault c.args.plans.now c.loop-number.plans
-    c.loop-number-test.true c.index-commands-number.is c.in-Apply.is c.requires.new c.loop-number.invariant.opened c.in-Err.ensures.refused
+    c.loop-number-test.true c.index-commands-number.is c.in-Apply.is c.requires.new c.loop-number.invariant.opened c.loop-number.invariant.settable c.in-Err.ensures.refused
 
 pub returns-clause-opened : goal.returns-clause-opened
 returns-clause-opened g c =
