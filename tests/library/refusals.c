@@ -179,15 +179,20 @@ static const struct {
     {100, BPF_HOST_CLOSED, "Closed"},
     {101, BPF_HOST_OPEN_ALREADY, "OpenAlready"},
     {102, BPF_HOST_WRONG_LENGTH, "WrongLength"},
+    {103, BPF_HOST_BAD_OBJECT, "BadObject"},
+    {104, BPF_HOST_HAS_MAPS, "HasMaps"},
 };
 
 static void check_codes(void)
 {
+    size_t named = 0;
     for (size_t at = 0; at < sizeof CODES / sizeof CODES[0]; at++) {
         CHECK(CODES[at].constant, CODES[at].number);
         CHECK(strcmp(bpf_host_code_name(CODES[at].number), CODES[at].name), 0);
     }
-    CHECK(strcmp(bpf_host_code_name(6), "Unknown"), 0);
+    for (uint32_t number = 0; number < 1000; number++)
+        named += strcmp(bpf_host_code_name(number), "Unknown") != 0;
+    CHECK(named, sizeof CODES / sizeof CODES[0]);
 }
 
 void test_handles(void)

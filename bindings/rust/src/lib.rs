@@ -40,7 +40,7 @@
 //!
 //! A map is not used after its host is gone:
 //!
-//! ```compile_fail
+//! ```compile_fail,E0597
 //! use bpf_host::{Host, Options, Shape};
 //!
 //! let map = {
@@ -52,7 +52,7 @@
 //!
 //! nor after it was removed:
 //!
-//! ```compile_fail
+//! ```compile_fail,E0382
 //! use bpf_host::{Host, Options, Shape};
 //!
 //! let host = Host::new(2, 1, Options::default()).unwrap();
@@ -74,7 +74,7 @@
 //!
 //! but is not used by two of them:
 //!
-//! ```compile_fail
+//! ```compile_fail,E0277
 //! use bpf_host::{Host, Options};
 //!
 //! let host = Host::new(2, 1, Options::default()).unwrap();

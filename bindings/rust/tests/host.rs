@@ -442,3 +442,33 @@ fn a_refused_object_leaves_no_map_and_says_why() {
         .to_string()
         .starts_with("refused 14 UnsetRegister at 0\n"));
 }
+
+/// Each argument reaches the library: contexts, steps, names, sizes, shapes, and whether a map may be merged.
+#[test]
+fn no_argument_is_lost() {
+    let second = text("79100800000000009500000000000000");
+    let context = [0, 0, 0, 0, 0, 0, 0, 0, 5, 0, 0, 0, 0, 0, 0, 0];
+    let one = host(6, 2);
+    let program = one.tenant(0).load(&second, 16).unwrap();
+    assert_eq!(program.run(&context), Ok(Run { ret: 5, steps: 2 }));
+    program.begin(&context).unwrap();
+    assert_eq!(one.tenant(0).step(0), Ok(None));
+    assert_eq!(one.tenant(0).step(2), Ok(Some(Run { ret: 5, steps: 2 })));
+    for (mergeable, sharing) in [(false, 0), (true, 1)] {
+        let host = host(6, 2);
+        let _maps = [0, 1].map(|tenant| host.tenant(tenant).create_map(WORD, mergeable).unwrap());
+        assert_eq!(host.visit(4).pages_sharing, sharing);
+    }
+    let globals = Object::read(&file("globals.o"), "", 0).unwrap();
+    let apart = host(8, 2);
+    let _programs = [0, 1].map(|tenant| apart.tenant(tenant).load_object(&globals, false).unwrap());
+    assert_eq!(apart.visit(100).pages_sharing, 0);
+    assert_eq!(Object::read(&file("two.o"), "tc", 16).unwrap().context_size, 16);
+    let unnamed = Object::read(&file("two.o"), "other", 0).unwrap_err();
+    assert!(unnamed.why.starts_with("no section and no function is named `other`"));
+    assert_eq!(lower(&second, &[], 16), Ok(second.clone()));
+    assert_eq!(refusal(lower(&second, &[], 8)), "OutsideContext");
+    assert_eq!(lower(&text(COUNTER), &[Some(WORD)], 0), Ok(text(COUNTER)));
+    assert!(explain(&second, &[], 16).unwrap().starts_with("accepted"));
+    assert!(explain(&text(COUNTER), &[Some(WORD)], 0).unwrap().starts_with("accepted"));
+}

@@ -46,6 +46,10 @@ pub enum Cause {
     OtherMachine(u16),
     #[error("section headers of {0} bytes, and not of 64")]
     HeaderSize(u16),
+    #[error("{0} sections; at most 1024 are read")]
+    TooManySections(u16),
+    #[error("more than 65536 symbols")]
+    TooManySymbols,
     #[error("it ends outside of the file, or of its section")]
     Cut,
     #[error("no name of at most 255 bytes of UTF-8 stands here")]
@@ -76,7 +80,7 @@ pub enum Cause {
     OtherAddress(String),
     #[error("a call leads to no function of this file")]
     CallOut,
-    #[error("more than 256 functions are called")]
+    #[error("more than 256 functions are called, or functions of more than 8192 slots together")]
     TooManyFunctions,
     #[error("a kernel function is called by its BTF id; only helpers 1 to 3 are there")]
     HelperByBtf,
@@ -92,7 +96,9 @@ pub enum Cause {
     NoBtf,
     #[error("BTF that cannot be read")]
     BadBtf,
-    #[error("more than 65536 records of lines")]
+    #[error("more than 65536 types of BTF")]
+    TooManyTypes,
+    #[error("more than 65536 records of lines, or lines of more than 1024 sections")]
     TooManyLines,
     #[error("BTF of kind {0}, which is unknown")]
     UnknownBtfKind(u32),
@@ -108,7 +114,7 @@ pub enum Cause {
     MapField(String, String),
     #[error("the map `{0}` has values of {value_size} bytes and {entries} entries; values have 1 to 4096 bytes, maps 1 to 65536 entries and at most 256 pages", value_size = .1.value_size, entries = .1.entries)]
     MapShape(String, Shape),
-    #[error("the definition of map `{0}` is shorter than 20 bytes, or has more fields than struct bpf_map_def")]
+    #[error("the definition of map `{0}` is shorter than 20 bytes, or has more fields than struct bpf_map_def, or some of them twice")]
     MapDefinition(String),
     #[error("global variables of {0} bytes in one map; the value of a map has at most 4096")]
     GlobalsSize(usize),
@@ -143,6 +149,22 @@ impl ObjectError {
             line: ShownLine(None),
         }
     }
+}
+
+/// The name of a map: whole where it is one of C, or has dots as sections have, and else as it is shown.
+pub fn named(alloc: Global, name: &[u8]) -> Result<String, AllocError> {
+    if !name.iter().all(is_of_name) {
+        return shown(alloc, name);
+    }
+    match str::from_utf8(name) {
+        Ok(name) => String::from_str(alloc, name),
+        Err(_) => shown(alloc, name),
+    }
+}
+
+/// Whether a byte may stand in a name of C, or is a dot.
+fn is_of_name(byte: &u8) -> bool {
+    byte.is_ascii_alphanumeric() || *byte == b'_' || *byte == b'.'
 }
 
 /// A name as it is shown: cut and escaped for a terminal, or `?` where it is no UTF-8 text.

@@ -8,6 +8,9 @@ use std::alloc::Global;
 /// The bytes of a type, without what follows it by its kind.
 const RECORD: usize = 12;
 
+/// The most types of a file.
+const MOST_TYPES: usize = 65536;
+
 /// How many steps a name of a type may be away from it, as in libbpf.
 const MOST_STEPS: u32 = 32;
 
@@ -76,9 +79,12 @@ impl<'a> Btf<'a> {
         };
         let mut begins = Vec::new(alloc);
         let mut at: usize = 0;
-        for _type in 0..=types.len() / RECORD {
+        for number_of_type in 0..=types.len() / RECORD {
             if at >= types.len() {
                 break;
+            }
+            if number_of_type >= MOST_TYPES {
+                return Err(ObjectError::at(number, at, Cause::TooManyTypes));
             }
             let Some(found) = type_at(types, at) else {
                 return Err(ObjectError::at(number, at, Cause::BadBtf));

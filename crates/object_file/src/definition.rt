@@ -12,6 +12,9 @@ use std::alloc::Global;
 /// The type of array maps: BPF_MAP_TYPE_ARRAY.
 pub(crate) const ARRAY_MAP: u32 = 2;
 
+/// The most fields of a definition that are read: twice as many as there are, and more.
+const MOST_FIELDS: usize = 16;
+
 /// What is said of a map.
 #[derive(Clone, Copy)]
 pub(crate) struct Definition {
@@ -129,7 +132,7 @@ fn definition_of(
     members: &Type,
 ) -> Result<Definition, ObjectError> {
     let mut definition = Definition::EMPTY;
-    for member in 0..members.count {
+    for member in 0..members.count.min(MOST_FIELDS) {
         let Some((field, kind)) = member_of(btf, members, member) else {
             return Err(ObjectError::at(btf.number, 0, Cause::BadBtf));
         };
@@ -140,6 +143,10 @@ fn definition_of(
                 return Err(ObjectError::at(section, offset, cause));
             }
         };
+    }
+    if members.count > MOST_FIELDS {
+        let cause = Cause::MapDefinition(shown(alloc, name)?);
+        return Err(ObjectError::at(section, offset, cause));
     }
     Ok(definition)
 }

@@ -108,8 +108,8 @@ fn is_among(object: &Object<'_>, symbol: &Symbol, among: Among) -> Result<bool, 
     }
     match among {
         Among::Section(number) => Ok(number == section.number),
-        Among::Sections => Ok(object.name(&section)? != b".text".as_slice()),
-        Among::Text => Ok(object.name(&section)? == b".text".as_slice()),
+        Among::Sections => Ok(!object.is_named(&section, b".text")?),
+        Among::Text => object.is_named(&section, b".text"),
     }
 }
 
@@ -121,7 +121,7 @@ fn by_name(
 ) -> Result<Option<Function>, ObjectError> {
     for number in 0..symbols.count() {
         let symbol = symbols.symbol(number)?;
-        if symbol.is_function() && !symbol.is_undefined() && symbols.name(&symbol)? == name {
+        if symbol.is_function() && !symbol.is_undefined() && symbols.is_named(&symbol, name) {
             return Ok(Some(function_of(object, &symbol)?));
         }
     }

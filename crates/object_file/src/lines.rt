@@ -4,7 +4,7 @@ ghost use Rattle.std.specs.Prelude.{◌≡◌, ◌≤◌, IfOk, IfSome};
 
 use crate::btf::names_of;
 use crate::field::{part_at, u16_at, u32_at};
-use crate::object::{Object, Section, front_at, name_at};
+use crate::object::{MOST_SECTIONS, Object, Section, front_at, name_at};
 use crate::source_line::SourceLine;
 use crate::text::Text;
 use object_error::{Cause, Location, ObjectError, ShownLine};
@@ -160,7 +160,7 @@ impl<'a> Records<'a> {
         let size = record_size(self.info)?;
         let mut found = None;
         let mut at: usize = 4;
-        for _section in 0..self.info.len() / 8 {
+        for _section in 0..MOST_SECTIONS {
             let Some((name, records)) = section_at(self.info, at, size) else {
                 break;
             };
@@ -220,9 +220,9 @@ fn add_sections<'a>(
     };
     let mut left = MOST_RECORDS;
     let mut at: usize = 4;
-    for _section in 0..info.len() / 8 {
+    for _section in 0..MOST_SECTIONS {
         if at >= info.len() {
-            break;
+            return Ok(());
         }
         let Some((name, records)) = section_at(info, at, size) else {
             return Err(source.bad());
@@ -238,6 +238,9 @@ fn add_sections<'a>(
             }
         }
         at = at.saturating_add(8).saturating_add(records.len());
+    }
+    if at < info.len() {
+        return Err(ObjectError::at(source.number, 0, Cause::TooManyLines));
     }
     Ok(())
 }

@@ -5,10 +5,10 @@ ghost use Rattle.object_file.specs.Maps.{AreShapedMaps, IsMap};
 
 use host_types::Shape;
 use host_types::limits::MAX_MAPS;
-use object_error::{Cause, ObjectError, shown};
+use object_error::{Cause, ObjectError, named};
 use std::alloc::{AllocError, Global};
 
-/// A map that a program uses: a name, escaped for a terminal, its shape, and the bytes of its one value at the start, which
+/// A map that a program uses: a name, escaped for a terminal where it is none of C, its shape, and the bytes of its one value at the start, which
 /// `first` has where they aren't all zero.
 #[derive(Drop)]
 pub struct Map {
@@ -66,7 +66,7 @@ impl Maps {
         if self.maps.len() >= MAX_MAPS {
             return Err(ObjectError::at(section, 0, Cause::TooManyMaps));
         }
-        let name = shown(alloc, name)?;
+        let name = named(alloc, name)?;
         if !shape.is_valid() {
             return Err(ObjectError::at(section, 0, Cause::MapShape(name, shape)));
         }

@@ -14,6 +14,11 @@ pub(crate) const MOST_BYTES: usize = 1 << 24;
 /// The most bytes of a name, with the zero that ends it.
 const MOST_OF_NAME: usize = 256;
 
+/// The most sections and symbols of a file: what is looked up goes over all of them.
+pub(crate) const MOST_SECTIONS: usize = 1024;
+
+const MOST_SYMBOLS: usize = 65536;
+
 /// The most bytes of a text among names.
 const MOST_OF_FRONT: usize = 1024;
 
@@ -120,6 +125,9 @@ impl<'a> Object<'a> {
         if usize::from(header_size) != SECTION_HEADER {
             return Err(of_file(Cause::HeaderSize(header_size)));
         }
+        if usize::from(sections) > MOST_SECTIONS {
+            return Err(of_file(Cause::TooManySections(sections)));
+        }
         Ok(Object {
             bytes,
             headers,
@@ -180,11 +188,17 @@ impl<'a> Object<'a> {
         }
     }
 
+    /// Whether a section has a name.
+    pub fn is_named(&self, section: &Section, name: &[u8]) -> Result<bool, ObjectError> {
+        let names = self.section(self.names)?;
+        Ok(has_name_at(self.contents(&names)?, section.name, name))
+    }
+
     /// The first section with a name.
     pub fn named(&self, name: &[u8]) -> Result<Option<Section>, ObjectError> {
         for number in 0..self.sections {
             let section = self.section(number)?;
-            if self.name(&section)? == name {
+            if self.is_named(&section, name)? {
                 return Ok(Some(section));
             }
         }
@@ -196,15 +210,24 @@ impl<'a> Object<'a> {
         for number in 0..self.sections {
             let section = self.section(number)?;
             if section.kind == SYMTAB {
-                let names = self.section(section.link)?;
-                return Ok(Symbols {
-                    number,
-                    records: self.contents(&section)?,
-                    names: self.contents(&names)?,
-                });
+                return self.symbols_of(&section);
             }
         }
         Err(of_file(Cause::NoSymbols))
+    }
+
+    /// The symbols of a section of them.
+    fn symbols_of(&self, section: &Section) -> Result<Symbols<'a>, ObjectError> {
+        let names = self.section(section.link)?;
+        let records = self.contents(section)?;
+        if records.len() > MOST_SYMBOLS * SYMBOL {
+            return Err(ObjectError::at(section.number, 0, Cause::TooManySymbols));
+        }
+        Ok(Symbols {
+            number: section.number,
+            records,
+            names: self.contents(&names)?,
+        })
     }
 }
 
@@ -255,11 +278,16 @@ impl<'a> Symbols<'a> {
         }
     }
 
+    /// Whether a symbol has a name.
+    pub fn is_named(&self, symbol: &Symbol, name: &[u8]) -> bool {
+        has_name_at(self.names, symbol.name, name)
+    }
+
     /// The first symbol of a section with a name.
     pub fn named(&self, section: usize, name: &[u8]) -> Result<Option<Symbol>, ObjectError> {
         for number in 0..self.count() {
             let symbol = self.symbol(number)?;
-            if symbol.section == section && self.name(&symbol)? == name {
+            if symbol.section == section && self.is_named(&symbol, name) {
                 return Ok(Some(symbol));
             }
         }
@@ -292,6 +320,14 @@ impl Symbol {
     pub fn is_undefined(&self) -> bool {
         self.section == 0
     }
+}
+
+/// Whether just this name stands at an offset of names, with a zero after it.
+fn has_name_at(names: &[u8], at: usize, name: &[u8]) -> bool {
+    let Some(end) = at.checked_add(name.len()) else {
+        return false;
+    };
+    names.get(end) == Some(&0) && names.get(at..end) == Some(name)
 }
 
 /// The name at an offset of names: bytes up to a zero, at most 255.

@@ -14,8 +14,13 @@ use crate::lines::with_line;
 use crate::map::{Map, Maps};
 use crate::object::{Object, Symbols};
 use crate::text::{Tables, Text, relocated};
+use host_types::limits::MAX_TEXT;
 use object_error::{Cause, ObjectError};
 use std::alloc::Global;
+
+/// The most bytes of functions. Each call of one leads to an instruction that is none, and a program has at most 4096 slots when it calls no
+/// function any more: so a program with more is refused whatever its functions do.
+const MOST_OF_FUNCTIONS: usize = 2 * MAX_TEXT;
 
 /// A program for a host: the texts of a function and of those that it calls, the first of them the program's own, and the maps that
 /// they name, by their numbers.
@@ -69,11 +74,16 @@ fn texts_of(
     list.push(function)?;
     let mut functions = Functions { list };
     let mut texts = Vec::new(alloc);
+    let mut left = MOST_OF_FUNCTIONS;
     for number in 0..MOST_FUNCTIONS {
         let Some(function) = functions.list.get(number).copied() else {
             break;
         };
         let text = relocated(alloc, tables, function, &mut functions)?;
+        let Some(fewer) = left.checked_sub(text.bytes.len()) else {
+            return Err(function.refused(0, Cause::TooManyFunctions));
+        };
+        left = fewer;
         if let Some((at, cause)) = first_missing(text.bytes.as_slice()) {
             return Err(function.refused(at, cause));
         }

@@ -44,26 +44,35 @@ static void wanted(int holds, const char *what)
     }
 }
 
-/* A call that may lack memory: it is made again where it did, and then memory is there. */
-#define AGAIN(call)                                                     \
-    do {                                                                \
-        uint32_t code = (call);                                         \
-        if (code == 41) {                                               \
-            lacked++;                                                   \
-            wanted(left_until_refused == 0, "41 with memory: " #call);  \
-            code = (call);                                              \
-        }                                                               \
-        wanted(code == 0, "not done: " #call);                          \
+/* A call that may lack memory: where it did, what it writes is as it was, and it is made again, when memory is there. */
+#define AGAIN(call, is_unwritten)                                              \
+    do {                                                                       \
+        uint32_t code = (call);                                                \
+        if (code == 41) {                                                      \
+            lacked++;                                                          \
+            wanted(left_until_refused == 0, "41 with memory: " #call);         \
+            wanted(is_unwritten, "41, and something is written: " #call);      \
+            code = (call);                                                     \
+        }                                                                      \
+        wanted(code == 0, "not done: " #call);                                 \
     } while (0)
+
+/* How many frames of a host are free. */
+static uint32_t free_frames(struct bpf_host *host)
+{
+    struct bpf_host_counters counters = {0};
+    wanted(bpf_host_counters(host, &counters) == 0, "no counters");
+    return counters.frames_free;
+}
 
 static void calls_on_a_text(const uint8_t *text, size_t len)
 {
     static const struct bpf_host_shape shapes[1] = {{8, 1}};
     struct bpf_host_refused refused = {0, 0, 0};
     uint8_t lowered[16] = {0};
-    size_t written = 0;
-    AGAIN(bpf_host_verify(text, len, shapes, 1, 8, &refused));
-    AGAIN(bpf_host_lower(text, len, shapes, 1, 8, lowered, sizeof lowered, &written, &refused));
+    size_t written = 12345;
+    AGAIN(bpf_host_verify(text, len, shapes, 1, 8, &refused), refused.slot == 0);
+    AGAIN(bpf_host_lower(text, len, shapes, 1, 8, lowered, sizeof lowered, &written, &refused), written == 12345 && lowered[0] == 0);
     wanted(written == len && memcmp(lowered, text, len) == 0, "another lowered text");
 }
 
@@ -85,17 +94,18 @@ static int explain_without(unsigned number)
     return was_refused;
 }
 
-/* An object file is read without one of the allocations: 41 and nothing but words for that, or the code that is wanted. Whether that allocation was
- * asked for. */
+/* An object file is read without one of the allocations, or for 0 with all: 41 and nothing but words for that, or the code that is wanted and what is
+ * read with all, but for words that are left out. Whether that allocation was asked for. */
 static int read_without(unsigned number, const char *path, uint32_t code_wanted)
 {
-    static struct bpf_host_object object, before;
+    static struct bpf_host_object object, before, whole;
     static uint8_t bytes[65536];
     struct bpf_host_refused refused = {0, 0, 0};
     FILE *file = fopen(path, "rb");
     size_t size = file == NULL ? 0 : fread(bytes, 1, sizeof bytes, file);
     if (file != NULL)
         fclose(file);
+    wanted(size > 0 && size < sizeof bytes, "an object file that isn't there");
     memset(&object, '~', sizeof object);
     before = object;
     left_until_refused = number;
@@ -107,7 +117,11 @@ static int read_without(unsigned number, const char *path, uint32_t code_wanted)
         memcpy(object.why, before.why, sizeof object.why);
         wanted(memcmp(&object, &before, sizeof object) == 0, "41, and something is written");
     } else {
-        wanted(code == code_wanted, "another refusal of an object file");
+        if (number == 0)
+            whole = object;
+        size_t said = code == 0 ? sizeof object.why : strcspn(object.why, "\n");
+        wanted(code == code_wanted && said > 0, "another refusal of an object file");
+        wanted(memcmp(&object, &whole, offsetof(struct bpf_host_object, why) + said) == 0, "another program, or other words");
     }
     return was_refused;
 }
@@ -115,8 +129,10 @@ static int read_without(unsigned number, const char *path, uint32_t code_wanted)
 static unsigned objects_read(const char *path, uint32_t code_wanted)
 {
     unsigned number = 1;
+    read_without(0, path, code_wanted);
     while (read_without(number, path, code_wanted) && number < 10000)
         number++;
+    wanted(number > 1, "an object file is read without an allocation");
     return number - 1;
 }
 
@@ -135,7 +151,7 @@ static void load_an_object(struct bpf_host *host, const uint8_t *text, size_t le
     object.maps[1].shape = (struct bpf_host_shape){8, 1};
     object.maps[1].first_len = 8;
     memcpy(object.maps[1].first, value, 8);
-    AGAIN(bpf_host_load_object(host, 1, &object, true, &number, &refused));
+    AGAIN(bpf_host_load_object(host, 1, &object, true, &number, &refused), number == 9 && free_frames(host) == 7);
     wanted(number == 0, "another program of an object");
     wanted(bpf_host_lookup(host, 1, 1, 0, found, sizeof found) == 0 && memcmp(found, value, sizeof found) == 0, "another first value");
 }
@@ -152,30 +168,31 @@ static void list_of_calls(void)
     uint8_t found[8] = {0};
     uint32_t number = 9;
     bool ended = false;
-    AGAIN(bpf_host_new(8, 2, &options, &host));
-    AGAIN(bpf_host_create_map(&host, 0, 8, 1, true, &number, &refused));
+    AGAIN(bpf_host_new(8, 2, &options, &host), !host.is_open);
+    AGAIN(bpf_host_create_map(&host, 0, 8, 1, true, &number, &refused), number == 9 && free_frames(&host) == 7);
     wanted(number == 0, "another map");
-    AGAIN(bpf_host_load(&host, 0, text, sizeof text, 8, &number, &refused));
+    number = 9;
+    AGAIN(bpf_host_load(&host, 0, text, sizeof text, 8, &number, &refused), number == 9);
     wanted(number == 0, "another program");
     unsigned before = asked;
     wanted(bpf_host_update(&host, 0, 0, 0, value, sizeof value, &refused) == 0 && asked == before, "an update takes memory");
     wanted(bpf_host_load(&host, 2, text, sizeof text, 8, &number, &refused) == 42 && asked == before, "no tenant, and memory is taken");
     wanted(bpf_host_load(&host, 0, text, sizeof text, 7, &number, &refused) == 39 && asked == before, "a bad size, and memory is taken");
-    AGAIN(bpf_host_run(&host, 0, 0, value, 8, &run, &refused));
+    AGAIN(bpf_host_run(&host, 0, 0, value, 8, &run, &refused), run.ret == 0 && run.steps == 0);
     wanted(run.ret == 42 && run.steps == 2, "another run");
     before = asked;
     wanted(bpf_host_run(&host, 0, 0, value, 8, &run, &refused) == 0 && asked == before, "a second run takes memory");
-    AGAIN(bpf_host_begin(&host, 0, 0, value, 8, &refused));
-    AGAIN(bpf_host_step(&host, 0, 9, &ended, &run));
+    AGAIN(bpf_host_begin(&host, 0, 0, value, 8, &refused), bpf_host_step(&host, 0, 0, &ended, &run) == 37);
+    AGAIN(bpf_host_step(&host, 0, 9, &ended, &run), !ended);
     wanted(ended, "the run goes on");
     before = asked;
     wanted(bpf_host_lookup(&host, 0, 0, 0, found, sizeof found - 1) == 102 && asked == before, "no room, and memory is taken");
     wanted(found[0] == 0, "a value without room");
     wanted(bpf_host_lookup(&host, 0, 0, 0, found, sizeof found) == 0 && asked == before, "a lookup takes memory");
     wanted(memcmp(found, value, sizeof found) == 0, "another value");
-    AGAIN(bpf_host_visit(&host, 4, &counters));
-    AGAIN(bpf_host_unload(&host, 0, 0));
-    AGAIN(bpf_host_drop_map(&host, 0, 0));
+    AGAIN(bpf_host_visit(&host, 4, &counters), false);
+    AGAIN(bpf_host_unload(&host, 0, 0), false);
+    AGAIN(bpf_host_drop_map(&host, 0, 0), false);
     load_an_object(&host, text, sizeof text, value);
     bpf_host_free(&host);
     calls_on_a_text(text, sizeof text);

@@ -28,7 +28,7 @@ static uint32_t number;
 static uint8_t branches[SLOTS][8], text[SLOTS][8], lowered[SLOTS][8], file[LONGEST];
 static char words[LONGEST];
 static size_t file_size, written;
-static unsigned loaded;
+static unsigned loaded, weighed;
 static struct bpf_host_object object;
 static const char *object_path;
 
@@ -79,6 +79,27 @@ static void visit(void)
     CHECK(bpf_host_update(&host, 0, 0, 0, value, sizeof value, &refused), 0);
 }
 
+/* The calls on a host that no other line here makes, the last of which closes it. */
+static void close_host(void)
+{
+    static const uint8_t context[64];
+    struct bpf_host_counters after;
+    struct bpf_host_shape shape = {0, 0};
+    struct bpf_host_run ended = {0, 0};
+    bool has_ended = false;
+    CHECK(bpf_host_begin(&host, 0, 0, context, 64, &refused), 0);
+    CHECK(bpf_host_step(&host, 0, 1, &has_ended, &ended), 0);
+    CHECK(bpf_host_step(&host, 0, SLOTS, &has_ended, &ended), 0);
+    CHECK(has_ended, true);
+    CHECK(bpf_host_set(&host, BPF_HOST_USE_ZERO_PAGES, 1), 0);
+    CHECK(bpf_host_unmerge(&host, &refused), 0);
+    CHECK(bpf_host_counters(&host, &after), 0);
+    CHECK(bpf_host_shape(&host, 0, 0, &shape), 0);
+    CHECK(bpf_host_unload(&host, 0, 1), 0);
+    CHECK(bpf_host_drop_map(&host, 0, 0), 0);
+    bpf_host_free(&host);
+}
+
 /* Adds, a jump back to the second slot for so long as a register is below 100, and the end: forty rounds of it fit. */
 static void lower(void)
 {
@@ -91,7 +112,7 @@ static void read_object(void)
 {
     static const char *const names[] = {"", "weigh"};
     for (int name = 0; name < 2; name++)
-        bpf_host_read_object(file, file_size, names[name], strlen(names[name]), 64, &object, &refused);
+        weighed += bpf_host_read_object(file, file_size, names[name], strlen(names[name]), 64, &object, &refused) == 0 && name == 1;
     checks++;
 }
 
@@ -170,6 +191,7 @@ int main(int argc, char **argv)
     check_call("bpf_host_run, run_many", run, SHORT);
     check_call("bpf_host_visit, lookup, update", visit, SHORT);
     check_call("bpf_host_lower, explain", lower, LONG);
+    check_call("bpf_host_begin, step, set, unmerge, counters, shape, unload, drop_map, free", close_host, SHORT);
     for (int at = 1; at < argc; at++) {
         object_path = argv[at];
         read_path();
@@ -179,6 +201,7 @@ int main(int argc, char **argv)
         bpf_host_free(&other);
     }
     CHECK(argc == 1 || loaded > 0, true);
+    printf("%u programs are loaded, and %u are `weigh`\n", loaded, weighed);
     bpf_host_free(&host);
     printf("%u checks, %u failures\n", checks, failures);
     return failures != 0;
