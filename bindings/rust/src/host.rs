@@ -113,6 +113,9 @@ unsafe impl Send for Host {}
 impl Host {
     /// A host of 1 to 16 tenants without maps, whose maps have 2 to 4096 frames of 4096 bytes in all.
     ///
+    /// # Panics
+    /// If the library has another version than this crate.
+    ///
     /// # Errors
     /// `BadShape` for other numbers, `BadOption`, and `OutOfMemory`.
     pub fn new(frames: u32, tenants: u32, options: Options) -> Result<Host, Refused> {

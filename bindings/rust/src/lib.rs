@@ -61,18 +61,25 @@
 //! map.update(0, &[0; 8]).unwrap();
 //! ```
 //!
-//! A host may move to another thread:
+//! A host may move to another thread, or stand behind a lock, where numbers find its maps and programs:
 //!
 //! ```
 //! use bpf_host::{Host, Options};
+//! use std::sync::Mutex;
 //!
 //! let host = Host::new(2, 1, Options::default())?;
-//! let counters = std::thread::spawn(move || host.counters()).join().unwrap();
-//! assert_eq!(counters.frames_free, 1); // the other one is the zero frame
+//! let answer = [0xb7, 0, 0, 0, 42, 0, 0, 0, 0x95, 0, 0, 0, 0, 0, 0, 0];
+//! let number = host.tenant(0).load(&answer, 0)?.number();
+//! let host = Mutex::new(host);
+//! std::thread::scope(|threads| {
+//!     for _thread in 0..2 {
+//!         threads.spawn(|| assert_eq!(host.lock().unwrap().tenant(0).program(number).run(&[]).unwrap().ret, 42));
+//!     }
+//! });
 //! # Ok::<(), bpf_host::Refused>(())
 //! ```
 //!
-//! but is not used by two of them:
+//! but is not used by two threads at a time:
 //!
 //! ```compile_fail,E0277
 //! use bpf_host::{Host, Options};

@@ -19,7 +19,7 @@ pub struct Object {
 /// A map of an object file, one that it defines or that its global variables are in.
 #[derive(Clone, Debug, PartialEq, Eq)]
 pub struct ObjectMap {
-    /// Its name, at most 63 bytes of it.
+    /// Its name, at most 63 bytes of it. One with other characters than a name of C and dots is escaped and cut.
     pub name: String,
     /// Its shape.
     pub shape: Shape,
@@ -39,6 +39,9 @@ pub struct ObjectRefused {
 
 impl Object {
     /// Reads an object file of at most 16 MiB. The name is that of a function, or of its section; if there is one function, it may be empty.
+    ///
+    /// # Panics
+    /// If the library has another version than this crate.
     ///
     /// # Errors
     /// `BadContext`, `BadObject` of a file that isn't accepted, a rule of the verifier, and `OutOfMemory`.

@@ -2,12 +2,14 @@
 
 use crate::ffi;
 use crate::object::Object;
-use crate::refused::{Refused, Returned};
+use crate::refused::{code, Refused, Returned};
 use crate::tenant::Tenant;
 
-/// An accepted program of a tenant. If it is dropped, it stays loaded; `unload` removes it.
+/// An accepted program of a tenant. A `Program` is the program's number: if it is dropped, the program stays loaded, and [`Tenant::program`] finds
+/// it; `unload` removes it. After that a `Program` that `Tenant::program` gave before is refused as `NoProgram`, or is a newer program with that
+/// number.
 #[derive(Debug)]
-#[must_use = "the program stays loaded, but nothing can run it"]
+#[must_use = "the program stays loaded; its number finds it"]
 pub struct Program<'h> {
     pub(crate) tenant: Tenant<'h>,
     pub(crate) number: u32,
@@ -32,10 +34,16 @@ impl From<ffi::Run> for Run {
 }
 
 impl<'h> Program<'h> {
+    /// The number of the program: 0 to 7.
+    pub fn number(&self) -> u32 {
+        self.number
+    }
+
     /// Runs the program on a context of its size, to its end.
     ///
     /// # Errors
-    /// `Busy` while a run of the tenant is open, `BadContext`, `NoFrames`, and `OutOfMemory`. The run wasn't begun then.
+    /// `Busy` while a run of the tenant is open, `NoProgram` after it was unloaded, `BadContext`, `NoFrames`, and `OutOfMemory`. The run wasn't begun
+    /// then.
     pub fn run(&self, context: &[u8]) -> Result<Run, Refused> {
         let (mut run, mut refused) = (ffi::Run::default(), ffi::Refused::default());
         // SAFETY: as in `Tenant::create_map`; the context has its length.
@@ -104,30 +112,45 @@ impl<'h> Program<'h> {
     /// which isn't checked. It is loaded beside the program, which is then unloaded, so the tenant has at most seven programs before.
     ///
     /// # Errors
-    /// What [`Tenant::load`] refuses: the program comes back.
+    /// What [`Tenant::load`] refuses, and `NoProgram` after it was unloaded. Then the tenant's programs are as they were, and `self` comes back.
     pub fn replace(self, next: &Object) -> Result<Program<'h>, Returned<Program<'h>>> {
-        match self.tenant.load(&next.text, next.context_size) {
-            // No run is open then, so that unloading isn't refused.
-            Ok(loaded) => self.unload().map(|()| loaded),
-            Err(refused) => Err(Returned {
-                value: self,
-                refused,
-            }),
+        let loaded = match self.tenant.load(&next.text, next.context_size) {
+            Ok(loaded) => loaded,
+            Err(refused) => return Err(self.returned(refused)),
+        };
+        // The new number was free before, so no program had it.
+        let unloaded = if loaded.number == self.number {
+            Err(self.returned(Refused::of(code::NO_PROGRAM)))
+        } else {
+            self.unload()
+        };
+        match unloaded {
+            Ok(()) => Ok(loaded),
+            Err(returned) => {
+                // No run is open, so that this isn't refused.
+                let _ = loaded.unload();
+                Err(returned)
+            }
+        }
+    }
+
+    /// The program, with what refused it.
+    fn returned(self, refused: Refused) -> Returned<Program<'h>> {
+        Returned {
+            value: self,
+            refused,
         }
     }
 
     /// Removes the program from its tenant.
     ///
     /// # Errors
-    /// `Busy` while a run of the tenant is open: the program comes back.
+    /// `Busy` while a run of the tenant is open, and `NoProgram` after it was unloaded: `self` comes back.
     pub fn unload(self) -> Result<(), Returned<Program<'h>>> {
         // SAFETY: as in `Tenant::create_map`.
         let code = unsafe {
             ffi::bpf_host_unload(self.tenant.host.handle(), self.tenant.number, self.number)
         };
-        Refused::check(code, ffi::Refused::default()).map_err(|refused| Returned {
-            value: self,
-            refused,
-        })
+        Refused::check(code, ffi::Refused::default()).map_err(|refused| self.returned(refused))
     }
 }

@@ -26,7 +26,7 @@ pub struct Frames {
     pub have: u32,
 }
 
-/// A refusal of a call that takes a map or a program, and that value.
+/// A refusal of a call that takes a map or a program, and that value. Where `?` wants an error without it, `map_err(Refused::from)` gives one.
 #[derive(Clone, Copy, Debug, PartialEq, Eq)]
 pub struct Returned<T> {
     /// What the call was made on, as it was.
@@ -116,6 +116,16 @@ impl Refused {
             frames: (code == code::NO_FRAMES).then_some(frames),
             made: 0,
         })
+    }
+
+    /// A refusal with nothing beside its number.
+    pub(crate) fn of(code: u32) -> Refused {
+        Refused {
+            code,
+            slot: None,
+            frames: None,
+            made: 0,
+        }
     }
 
     /// The name of the refusal, as in docs/HOST.md.

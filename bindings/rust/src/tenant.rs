@@ -56,6 +56,15 @@ impl<'h> Tenant<'h> {
         Ok(map)
     }
 
+    /// The tenant's program with a number, which was loaded before: so a host can be kept behind a lock, or handed to another thread, with the
+    /// numbers of its programs beside it. If there is no such program, its calls are refused as `NoProgram`.
+    pub fn program(&self, number: u32) -> Program<'h> {
+        Program {
+            tenant: *self,
+            number,
+        }
+    }
+
     /// Loads a program for contexts of so many bytes: a multiple of 8, up to 256. It is verified for the tenant's maps.
     ///
     /// # Errors
@@ -89,7 +98,7 @@ impl<'h> Tenant<'h> {
     /// tenant refers.
     pub fn load_object(&self, object: &Object, mergeable: bool) -> Result<Program<'h>, Refused> {
         if (0..MOST_MAPS).any(|number| self.map(number).is_ok()) {
-            Refused::check(code::HAS_MAPS, ffi::Refused::default())?;
+            return Err(Refused::of(code::HAS_MAPS));
         }
         let mut made = Vec::new();
         let loaded = self.make_and_load(object, mergeable, &mut made);
@@ -121,7 +130,7 @@ impl<'h> Tenant<'h> {
     /// Makes at most so many steps of the run that [`Program::begin`] opened: what it returned, if it ended with them.
     ///
     /// # Errors
-    /// `BadTenant`, and `NoRun` if none is open.
+    /// `BadTenant`, and `NoRun` if none is open; nothing if `steps` is 0.
     pub fn step(&self, steps: u64) -> Result<Option<Run>, Refused> {
         let (mut ended, mut run) = (false, ffi::Run::default());
         // SAFETY: as in `create_map`.

@@ -10,6 +10,9 @@ const MOST_BYTES: usize = 32768;
 /// Verifies a text as [`Tenant::load`](crate::Tenant::load) does, for maps of these shapes, by number, and contexts of `context_size` bytes. A
 /// number without a shape is that of no map; so is a shape of two zeros.
 ///
+/// # Panics
+/// If the library has another version than this crate.
+///
 /// # Errors
 /// `TooManyMaps` of more than eight shapes, `BadShape`, `BadContext`, a rule of the verifier, and `OutOfMemory`.
 ///
@@ -37,6 +40,9 @@ pub fn verify(text: &[u8], shapes: &[Option<Shape>], context_size: u32) -> Resul
 }
 
 /// A text with the same runs that [`verify`] accepts, with blocks in another order and loops in several copies (docs/LOWER.md).
+///
+/// # Panics
+/// As [`verify`].
 ///
 /// # Errors
 /// What `verify` refuses, if no such text is found.

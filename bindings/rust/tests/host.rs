@@ -418,6 +418,50 @@ fn a_program_is_replaced_on_its_maps() {
 }
 
 #[test]
+fn a_program_is_found_by_its_number() {
+    let object = Object::read(&file("globals.o"), "", 0).unwrap();
+    let host = host(8, 1);
+    let tenant = host.tenant(0);
+    let first = tenant.load_object(&object, true).unwrap();
+    let second = tenant.load(&text(ANSWER), 0).unwrap();
+    assert_eq!((first.number(), second.number()), (0, 1));
+    assert_eq!(tenant.program(1).run(&[]), Ok(Run { ret: 42, steps: 2 }));
+    second.unload().unwrap();
+    assert_eq!(refusal(tenant.program(1).run(&[])), "NoProgram");
+    assert_eq!(refusal(tenant.program(1).unload()), "NoProgram");
+    // A replacement of nothing loads nothing: neither where the new number is that of nothing, nor where it is another one.
+    for nothing in [1, 5] {
+        let returned = tenant.program(nothing).replace(&object).unwrap_err();
+        assert_eq!(returned.refused.code, code::NO_PROGRAM);
+        assert_eq!(returned.value.number(), nothing);
+        assert_eq!(refusal(tenant.program(1).run(&[])), "NoProgram");
+    }
+    // While a run is open nothing is replaced.
+    first.begin(&[]).unwrap();
+    assert_eq!(refusal(first.replace(&object)), "Busy");
+}
+
+#[test]
+fn threads_share_a_host_behind_a_lock() {
+    let host = host(3, 1);
+    let _map = host.tenant(0).create_map(WORD, true).unwrap();
+    let number = host.tenant(0).load(&text(COUNTER), 0).unwrap().number();
+    let host = std::sync::Mutex::new(host);
+    std::thread::scope(|threads| {
+        for _thread in 0..4 {
+            threads.spawn(|| {
+                for _run in 0..100 {
+                    let host = host.lock().unwrap();
+                    host.tenant(0).program(number).run(&[]).unwrap();
+                }
+            });
+        }
+    });
+    let host = host.into_inner().unwrap();
+    assert_eq!(host.tenant(0).program(number).run(&[]).unwrap().ret, 401);
+}
+
+#[test]
 fn a_refused_object_leaves_no_map_and_says_why() {
     let object = Object::read(&file("globals.o"), "", 0).unwrap();
     let small = host(3, 1);
@@ -463,12 +507,19 @@ fn no_argument_is_lost() {
     let apart = host(8, 2);
     let _programs = [0, 1].map(|tenant| apart.tenant(tenant).load_object(&globals, false).unwrap());
     assert_eq!(apart.visit(100).pages_sharing, 0);
-    assert_eq!(Object::read(&file("two.o"), "tc", 16).unwrap().context_size, 16);
+    assert_eq!(
+        Object::read(&file("two.o"), "tc", 16).unwrap().context_size,
+        16
+    );
     let unnamed = Object::read(&file("two.o"), "other", 0).unwrap_err();
-    assert!(unnamed.why.starts_with("no section and no function is named `other`"));
+    assert!(unnamed
+        .why
+        .starts_with("no section and no function is named `other`"));
     assert_eq!(lower(&second, &[], 16), Ok(second.clone()));
     assert_eq!(refusal(lower(&second, &[], 8)), "OutsideContext");
     assert_eq!(lower(&text(COUNTER), &[Some(WORD)], 0), Ok(text(COUNTER)));
     assert!(explain(&second, &[], 16).unwrap().starts_with("accepted"));
-    assert!(explain(&text(COUNTER), &[Some(WORD)], 0).unwrap().starts_with("accepted"));
+    assert!(explain(&text(COUNTER), &[Some(WORD)], 0)
+        .unwrap()
+        .starts_with("accepted"));
 }
