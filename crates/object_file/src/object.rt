@@ -322,12 +322,12 @@ impl Symbol {
     }
 }
 
-/// Whether just this name stands at an offset of names, with a zero after it.
+/// Whether just this name stands at an offset of names, with a zero after it. A name has no zero in it.
 fn has_name_at(names: &[u8], at: usize, name: &[u8]) -> bool {
     let Some(end) = at.checked_add(name.len()) else {
         return false;
     };
-    names.get(end) == Some(&0) && names.get(at..end) == Some(name)
+    names.get(end) == Some(&0) && names.get(at..end) == Some(name) && !name.contains(&0)
 }
 
 /// The name at an offset of names: bytes up to a zero, at most 255.
