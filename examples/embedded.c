@@ -59,9 +59,9 @@ static uint32_t load_apart(struct bpf_host *host, uint32_t *tenant, uint32_t *pr
     uint32_t code = bpf_host_load_object(host, spare, &object, false, &next, &refused);
     if (code != 0)
         return code;
-    bpf_host_unload(host, *tenant, *program);
-    for (uint32_t map = 0; map < 8; map++)
-        bpf_host_drop_map(host, *tenant, map);
+    must(bpf_host_unload(host, *tenant, *program));
+    for (uint32_t map = 0; map < running.maps_len; map++)
+        must(bpf_host_drop_map(host, *tenant, map));
     *tenant = spare, *program = next;
     return 0;
 }

@@ -323,6 +323,15 @@ uint32_t bpf_host_read_object(const uint8_t *file, size_t file_len, const char *
 uint32_t bpf_host_load_object(struct bpf_host *host, uint32_t tenant, const struct bpf_host_object *object, bool mergeable, uint32_t *program,
                               struct bpf_host_refused *refused) BPF_HOST_NONNULL;
 
+/* The number of the map of an object that was read with a name, or `maps_len` if it has none of that name. */
+static inline uint32_t bpf_host_map_named(const struct bpf_host_object *object, const char *name)
+{
+    for (uint32_t number = 0; number < object->maps_len && number < BPF_HOST_MAX_MAPS; number++)
+        if (strncmp(object->maps[number].name, name, sizeof object->maps[number].name) == 0)
+            return number;
+    return object->maps_len;
+}
+
 /* Whether two objects that were read have the same maps by number: names, of less than 63 bytes, so that none was cut, shapes and initial values.
  * Then bpf_host_replace can put one in place of the other. Their context sizes may differ. */
 static inline bool bpf_host_same_maps(const struct bpf_host_object *one, const struct bpf_host_object *other)

@@ -96,10 +96,10 @@ struct event {
 struct reply {
     enum kind kind;
     uint32_t code;
-    struct bpf_host_refused refused = {0};
+    struct bpf_host_refused refused;
     uint32_t number;    /* of a map or program */
     bool ended;
-    struct bpf_host_run run = {0};
+    struct bpf_host_run run;
     uint32_t len;
     uint8_t value[PAGE];
 };

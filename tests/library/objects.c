@@ -58,8 +58,14 @@ static void test_refused_files(void)
     check_refused(size, "", 0, BPF_HOST_BAD_OBJECT, "section 2, byte 0: there are several functions, ");
     check_refused(size, "other", 0, BPF_HOST_BAD_OBJECT, "no section and no function is named `other`");
     check_refused(size, "\xff", 0, BPF_HOST_BAD_OBJECT, "the name is no UTF-8 text");
+    /* Cut, it has words of its own. */
     check_refused(size / 2, "tc", 0, BPF_HOST_BAD_OBJECT, "");
+    CHECK(read_object(size / 2, "tc", 0) == BPF_HOST_BAD_OBJECT && object.why[0] != 0, true);
     CHECK(last_refused.slot, 77);
+    /* The names of both functions stand so in the file, but no name has a zero in it. */
+    CHECK(memcmp(bytes + 185, "xdp\0tc", 7), 0);
+    CHECK(bpf_host_read_object(bytes, size, "xdp\0tc", 6, 0, &object, &last_refused), BPF_HOST_BAD_OBJECT);
+    CHECK(bpf_host_read_object(bytes, size, "xdp", 3, 16, &object, &last_refused), 0);
     check_refused(read_file("crates/bpf_object/data/unset.o"), "", 0, BPF_HOST_UNSET_REGISTER, "refused 14 UnsetRegister at 0\n");
     CHECK(last_refused.slot, 0);
 }
@@ -188,6 +194,27 @@ static void test_same_maps(void)
     other = object;
     other.maps[0].first_len = 4097;
     CHECK(bpf_host_same_maps(&other, &other), false);
+    /* A name that may have been cut is nobody's. */
+    other = object;
+    memset(other.maps[0].name, 'n', 62);
+    CHECK(bpf_host_same_maps(&other, &other), true);
+    other.maps[0].name[62] = 'n';
+    CHECK(bpf_host_same_maps(&other, &other), false);
+}
+
+/* A map is found by its name. */
+static void test_map_named(void)
+{
+    CHECK(read_object(read_file("crates/bpf_object/data/globals.o"), "", 0), 0);
+    CHECK(object.maps_len, 3);
+    for (uint32_t map = 0; map < 3; map++)
+        CHECK(bpf_host_map_named(&object, object.maps[map].name), map);
+    CHECK(bpf_host_map_named(&object, ".data"), 0);
+    CHECK(bpf_host_map_named(&object, ".dat"), 3);
+    CHECK(bpf_host_map_named(&object, ".data."), 3);
+    CHECK(bpf_host_map_named(&object, ""), 3);
+    object.maps_len = 9;
+    CHECK(bpf_host_map_named(&object, "none"), 9);
 }
 
 /* A program that replaces another one goes on with the values of its maps. What is refused leaves the old one and its number. */
@@ -230,6 +257,7 @@ static void test_replaced_program(void)
 void test_objects(void)
 {
     test_same_maps();
+    test_map_named();
     test_replaced_program();
     test_refused_files();
     test_loaded_objects();

@@ -136,7 +136,7 @@ static void check_shapes(struct bpf_host *host)
 
 /* The refusals of docs/HOST.md and docs/VERIFIER.md, and the handle's own: number and name, and the constant of the header. */
 static const struct {
-    uint32_t number = 0;
+    uint32_t number;
     uint32_t constant;
     const char *name;
 } CODES[] = {
