@@ -184,19 +184,21 @@ struct bpf_host_shape {
 struct bpf_host_object_map {
     struct bpf_host_shape shape;
     uint32_t first_len;
-    char name[64]; /* UTF-8 and zeros, one at least: a longer name is cut. One with other characters than a name of C and dots is escaped, too */
+    char name[64]; /* UTF-8 and zeros, one at least: a longer name is cut. One with other characters than a name of C and dots is cut after 40 and
+                      escaped for a terminal, not for HTML */
     uint8_t first[BPF_HOST_MAX_VALUE];
 };
 
 /* A program of an object file, its functions in one text and its loops unrolled, and its maps by number. It has 67180 bytes, so keep it static or on
- * the heap. What follows its text and its last map is left unchanged. */
+ * the heap. What follows its text, its last map and the first value of a map is left unchanged: bytes of an object that was read before. */
 struct bpf_host_object {
     uint32_t context_size;
     uint32_t text_len;
     uint32_t maps_len;
     uint8_t text[BPF_HOST_MAX_TEXT];
     struct bpf_host_object_map maps[BPF_HOST_MAX_MAPS];
-    char why[1024]; /* after a refusal the reason, with the line of C: UTF-8 and zeros, one at least; more is cut. Unchanged if nothing is refused */
+    char why[1024]; /* after a refusal the reason, with the line of C: UTF-8 and zeros, one at least, escaped for a terminal, not for HTML; more is
+                       cut. Unchanged if nothing is refused */
 };
 
 /* The counters, by the names of the kernel's manual. */
@@ -332,16 +334,17 @@ static inline uint32_t bpf_host_map_named(const struct bpf_host_object *object, 
     return object->maps_len;
 }
 
-/* Whether two objects that were read have the same maps by number: names, of less than 63 bytes, so that none was cut, shapes and initial values.
- * Then bpf_host_replace can put one in place of the other. Their context sizes may differ. */
+/* Whether two objects that were read have the same maps by number: names, of C and dots and of less than 63 bytes, so that none was cut or escaped,
+ * shapes and initial values. Then bpf_host_replace can put one in place of the other. Their context sizes may differ. */
 static inline bool bpf_host_same_maps(const struct bpf_host_object *one, const struct bpf_host_object *other)
 {
+    static const char plain[] = "ABCDEFGHIJKLMNOPQRSTUVWXYZabcdefghijklmnopqrstuvwxyz0123456789_.";
     bool same = one->maps_len == other->maps_len && one->maps_len <= BPF_HOST_MAX_MAPS;
     for (uint32_t number = 0; same && number < one->maps_len; number++) {
         const struct bpf_host_object_map *a = &one->maps[number], *b = &other->maps[number];
-        same = memcmp(a->name, b->name, sizeof a->name) == 0 && a->name[sizeof a->name - 2] == 0 && a->shape.value_size == b->shape.value_size &&
-               a->shape.entries == b->shape.entries && a->first_len == b->first_len && a->first_len <= sizeof a->first &&
-               memcmp(a->first, b->first, a->first_len) == 0;
+        same = memcmp(a->name, b->name, sizeof a->name) == 0 && a->name[sizeof a->name - 2] == 0 && a->name[sizeof a->name - 1] == 0 &&
+               a->name[strspn(a->name, plain)] == 0 && a->shape.value_size == b->shape.value_size && a->shape.entries == b->shape.entries &&
+               a->first_len == b->first_len && a->first_len <= sizeof a->first && memcmp(a->first, b->first, a->first_len) == 0;
     }
     return same;
 }

@@ -200,6 +200,10 @@ static void test_same_maps(void)
     CHECK(bpf_host_same_maps(&other, &other), true);
     other.maps[0].name[62] = 'n';
     CHECK(bpf_host_same_maps(&other, &other), false);
+    /* So is one that may have been escaped. */
+    other = object;
+    other.maps[0].name[1] = '-';
+    CHECK(bpf_host_same_maps(&other, &other), false);
 }
 
 /* A map is found by its name. */

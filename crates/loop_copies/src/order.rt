@@ -20,12 +20,45 @@ const IN_ORDER: u32 = u32::MAX;
 /// How often blocks are visited at most. A block is visited once more for each loop that it is in.
 const MAX_VISITS: u32 = 262_144;
 
-/// A walk over the blocks, depth first.
+/// How many steps these visits take at most.
+const MAX_STEPS: u32 = 6 * MAX_VISITS;
+
+/// What is left of a visit to a block.
+#[derive(Clone, Copy)]
+enum Stage {
+    /// To follow its jump, and then what it falls through to.
+    Jump,
+    Next,
+    /// To see whether a way from it leads back to it or to a block before it.
+    Judge,
+    /// To follow both once more, of the header of a loop, whose end stands in the order.
+    LoopJump,
+    LoopNext,
+    /// To put it into the order.
+    Place,
+}
+
+/// A visit to a block that isn't at its end.
+#[derive(Clone, Copy)]
+struct Visit {
+    slot: u16,
+    jump: Option<u16>,
+    next: Option<u16>,
+    number: u32,
+    /// The least number to which a way from the block led.
+    least: u32,
+    stage: Stage,
+}
+
+/// A walk over the blocks, depth first. The visits that aren't at their end are in a list, so that the stack doesn't grow with the text.
 #[derive(Drop)]
 struct Walk {
     /// The number of each block by its slot, in the order in which they were visited; 0 of one that wasn't.
     numbers: Vec<u32>,
     visited: u32,
+    visits: Vec<Visit>,
+    /// The least number to which the way led that was followed last.
+    answer: u32,
     /// The blocks that were visited and don't stand in the order.
     path: Vec<u16>,
     /// The order, its last position first.
@@ -41,10 +74,13 @@ pub(crate) fn in_loop_order(alloc: Global, blocks: &Blocks) -> Result<Vec<Positi
     let mut walk = Walk {
         numbers,
         visited: 0,
+        visits: Vec::new(alloc),
+        answer: IN_ORDER,
         path: Vec::new(alloc),
         order: Vec::new(alloc),
     };
-    walk.visit(blocks, 0, 4096)?;
+    walk.begin(blocks, 0)?;
+    walk.finish(blocks)?;
     walk.order.reverse();
     Ok(walk.order)
 }
@@ -65,12 +101,11 @@ impl Walk {
         }
     }
 
-    /// Visits a block, and those to which it leads. The answer is the least number of a block to which they lead and
-    /// which isn't in the order.
-    #[cycle(walk)]
-    fn visit(&mut self, blocks: &Blocks, slot: u16, depth: u16) -> Result<u32, Stop> {
+    /// Begins a visit to a block.
+    fn begin(&mut self, blocks: &Blocks, slot: u16) -> Result<(), Stop> {
         let Some(block) = blocks.at(slot) else {
-            return Ok(IN_ORDER);
+            self.answer = IN_ORDER;
+            return Ok(());
         };
         if self.visited >= MAX_VISITS {
             return Err(Stop::Nested {
@@ -78,35 +113,109 @@ impl Walk {
             });
         }
         self.visited += 1;
-        let number = self.visited;
-        set_number(&mut self.numbers, slot, number);
+        set_number(&mut self.numbers, slot, self.visited);
         self.path.push(slot)?;
-        let jump = self.least(blocks, block.jump, depth)?;
-        let next = self.least(blocks, block.next, depth)?;
-        let least = jump.min(next);
-        if least < number {
-            return Ok(least);
-        }
-        self.leave(slot);
-        if least == number {
-            self.order.push(Position::End(slot))?;
-            self.least(blocks, block.jump, depth)?;
-            self.least(blocks, block.next, depth)?;
-        }
-        self.order.push(Position::Block(slot))?;
-        Ok(number)
+        self.visits.push(Visit {
+            slot,
+            jump: block.jump,
+            next: block.next,
+            number: self.visited,
+            least: IN_ORDER,
+            stage: Stage::Jump,
+        })?;
+        Ok(())
     }
 
-    /// The least number to which a way leads.
-    #[cycle(walk)]
-    fn least(&mut self, blocks: &Blocks, to: Option<u16>, depth: u16) -> Result<u32, Stop> {
-        let Some(to) = to else {
-            return Ok(IN_ORDER);
-        };
-        match self.number(to) {
-            0 if depth > 0 => self.visit(blocks, to, depth - 1),
-            number => Ok(number),
+    /// Goes on with all visits to their ends.
+    fn finish(&mut self, blocks: &Blocks) -> Result<(), Stop> {
+        for _step in 0..MAX_STEPS {
+            let Some(visit) = self.visits.pop() else {
+                return Ok(());
+            };
+            self.go_on(blocks, visit)?;
         }
+        Err(Stop::Nested { slot: 0 })
+    }
+
+    /// Makes the step of a visit that is left, and leaves the others in the list.
+    fn go_on(&mut self, blocks: &Blocks, visit: Visit) -> Result<(), Stop> {
+        let least = visit.least.min(self.answer);
+        match visit.stage {
+            Stage::Jump => self.follow(
+                blocks,
+                visit.jump,
+                Visit {
+                    stage: Stage::Next,
+                    ..visit
+                },
+            ),
+            Stage::Next => self.follow(
+                blocks,
+                visit.next,
+                Visit {
+                    stage: Stage::Judge,
+                    least,
+                    ..visit
+                },
+            ),
+            Stage::Judge => self.judge(Visit { least, ..visit }),
+            Stage::LoopJump => self.follow(
+                blocks,
+                visit.jump,
+                Visit {
+                    stage: Stage::LoopNext,
+                    ..visit
+                },
+            ),
+            Stage::LoopNext => self.follow(
+                blocks,
+                visit.next,
+                Visit {
+                    stage: Stage::Place,
+                    ..visit
+                },
+            ),
+            Stage::Place => self.place(visit),
+        }
+    }
+
+    /// Follows a way, and goes on with a visit after that.
+    fn follow(&mut self, blocks: &Blocks, to: Option<u16>, visit: Visit) -> Result<(), Stop> {
+        self.visits.push(visit)?;
+        self.answer = match to {
+            None => IN_ORDER,
+            Some(to) => match self.number(to) {
+                0 => return self.begin(blocks, to),
+                number => number,
+            },
+        };
+        Ok(())
+    }
+
+    /// What becomes of a block from which all ways were followed: one that leads to a block before it stays on the path; else its
+    /// loop, if it is the header of one, is followed once more.
+    fn judge(&mut self, visit: Visit) -> Result<(), Stop> {
+        self.answer = visit.least;
+        if visit.least < visit.number {
+            return Ok(());
+        }
+        self.leave(visit.slot);
+        if visit.least > visit.number {
+            return self.place(visit);
+        }
+        self.order.push(Position::End(visit.slot))?;
+        self.visits.push(Visit {
+            stage: Stage::LoopJump,
+            ..visit
+        })?;
+        Ok(())
+    }
+
+    /// Puts a block into the order.
+    fn place(&mut self, visit: Visit) -> Result<(), Stop> {
+        self.order.push(Position::Block(visit.slot))?;
+        self.answer = visit.number;
+        Ok(())
     }
 
     /// Marks a block as one of the order, and forgets the blocks of its loop, which are visited once more without the way

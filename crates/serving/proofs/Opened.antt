@@ -23,7 +23,7 @@ use Rattle.host_types.specs.Events.{tenant_of}
 use Rattle.host_file.specs.declared.command.Command.TheVariants.{Apply, Finish, Run, Step, Visit}
 use Rattle.host_file.specs.declared.command.Command.{Command}
 use Rattle.serving.specs.AtFirst.{first_part}
-use Rattle.serving.specs.Opened.{AreOpenedFor, HaveOpened, Home, IsGiven, IsNewPlan, IsOpenedFor, IsStopped, RefusesGift, RefusesOpening, first_home, home_of}
+use Rattle.serving.specs.Opened.{AreOpenedFor, HaveOpened, Home, IsGiven, IsNewPlan, IsOpenedFor, IsSettable, IsStopped, RefusesGift, RefusesOpening, first_home, home_of}
 use Rattle.serving.proofs.Indices.{at-mapped, each-at, past-mapped, split-at}
 
 -- one more command

@@ -25,7 +25,7 @@ void check_at(const char *file, int line, const char *what, unsigned long long f
 static struct bpf_host host, other;
 static struct bpf_host_refused refused;
 static uint32_t number;
-static uint8_t branches[SLOTS][8], text[SLOTS][8], lowered[SLOTS][8], file[LONGEST];
+static uint8_t branches[SLOTS][8], blocks[SLOTS][8], text[SLOTS][8], lowered[SLOTS][8], file[LONGEST];
 static char words[LONGEST];
 static size_t file_size, written;
 static unsigned loaded, weighed;
@@ -83,7 +83,7 @@ static void visit(void)
 static void close_host(void)
 {
     static const uint8_t context[64];
-    struct bpf_host_counters after;
+    struct bpf_host_counters after = {0};
     struct bpf_host_shape shape = {0, 0};
     struct bpf_host_run ended = {0, 0};
     bool has_ended = false;
@@ -106,6 +106,13 @@ static void lower(void)
     size_t size = 50 * sizeof *text;
     CHECK(bpf_host_lower(text[0], size, &no_shape, 0, 64, lowered[0], sizeof lowered, &written, &refused), 0);
     CHECK(bpf_host_explain(text[0], size, &no_shape, 0, 64, words, sizeof words, &written), 0);
+}
+
+/* A text of as many blocks as slots, each of which leads to the next one, and of which the first reads a pointer as a number. */
+static void lower_blocks(void)
+{
+    CHECK(bpf_host_lower(blocks[0], sizeof blocks, &no_shape, 0, 64, lowered[0], sizeof lowered, &written, &refused), BPF_HOST_WRONG_KIND);
+    CHECK(bpf_host_explain(blocks[0], sizeof blocks, &no_shape, 0, 64, words, sizeof words, &written), 0);
 }
 
 static void read_object(void)
@@ -167,6 +174,9 @@ static void write_texts(void)
     for (int slot = 1; slot < SLOTS - 1; slot++)
         put(branches[slot], 0x15, 0, (int16_t)(SLOTS - 2 - slot), slot);
     put(branches[SLOTS - 1], 0x95, 0, 0, 0);
+    for (int slot = 0; slot < SLOTS - 1; slot++)
+        put(blocks[slot], 0x15, 0x01, 0, 0);
+    put(blocks[SLOTS - 1], 0x95, 0, 0, 0);
     put(text[0], 0xb7, 0, 0, 0);
     for (int slot = 1; slot < 48; slot++)
         put(text[slot], 0x07, 0, 0, 1);
@@ -191,6 +201,7 @@ int main(int argc, char **argv)
     check_call("bpf_host_run, run_many", run, SHORT);
     check_call("bpf_host_visit, lookup, update", visit, SHORT);
     check_call("bpf_host_lower, explain", lower, LONG);
+    check_call("bpf_host_lower, explain of many blocks", lower_blocks, LONG);
     check_call("bpf_host_begin, step, set, unmerge, counters, shape, unload, drop_map, free", close_host, SHORT);
     for (int at = 1; at < argc; at++) {
         object_path = argv[at];
