@@ -27,7 +27,7 @@ class Names:
     """A table of strings."""
 
     def __init__(self):
-        self.bytes = b'\0'
+        self.bytes = bytearray(1)
 
     def at(self, name):
         begin = len(self.bytes)
