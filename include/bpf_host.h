@@ -312,8 +312,8 @@ uint32_t bpf_host_explain(const uint8_t *text, size_t text_len, const struct bpf
 /* Reads an object file, makes one text of the function that `name` selects (its own name, or that of its section; if empty, the only function) and
  * of those that it calls, lowers it as bpf_host_lower does, and writes the text that the verifier accepts, and its maps. No handle is needed, and
  * several threads may call it at the same time. Refused: BAD_CONTEXT, BAD_OBJECT, a rule, OUT_OF_MEMORY; then `object->why` has the words of the
- * program `bpf_object`, with the instruction and its line of C (a rule's slot is that of the text before lowering), and nothing else in `*object`
- * changed. */
+ * program `bpf_object`, with the instruction and its line of C (a rule's slot is that of the text before lowering), or says that memory ran out for
+ * them, and nothing else in `*object` changed. */
 uint32_t bpf_host_read_object(const uint8_t *file, size_t file_len, const char *name, size_t name_len, uint32_t context_size,
                               struct bpf_host_object *object, struct bpf_host_refused *refused) BPF_HOST_NONNULL;
 

@@ -119,8 +119,11 @@ static int read_without(unsigned number, const char *path, uint32_t code_wanted)
     } else {
         if (number == 0)
             whole = object;
-        size_t said = code == 0 ? sizeof object.why : strcspn(object.why, "\n");
+        /* The line of C, in parentheses, is left out where there is no memory for it; where there is none for the verdict's words, they say that. */
+        size_t said = code == 0 ? sizeof object.why : strcspn(object.why, "(\n");
         wanted(code == code_wanted && said > 0, "another refusal of an object file");
+        if (was_refused && code != 0 && strncmp(object.why, "refused 41 OutOfMemory", 22) == 0)
+            said = 0;
         wanted(memcmp(&object, &whole, offsetof(struct bpf_host_object, why) + said) == 0, "another program, or other words");
     }
     return was_refused;
