@@ -18,7 +18,7 @@ enum { TENANTS = 16, FRAMES = 256, CONTEXT = 256, VISIT_EACH = 1024, VISITS = 64
 
 struct tenant {
     const char *name;
-    uint32_t program = 0;
+    uint32_t program;
     struct bpf_program expression;
     unsigned long accepted, wanted, wrong;
 };
