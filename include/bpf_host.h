@@ -224,8 +224,8 @@ uint32_t bpf_host_new(uint32_t frames, uint32_t tenants, const struct bpf_host_o
 void bpf_host_free(struct bpf_host *host) BPF_HOST_NONNULL;
 
 /* Makes a map of `entries` values of `value_size` bytes, all zero, and writes its number to `*map`: 0 to 7. If it is `mergeable`, visits let its
- * pages share frames with equal pages of mergeable maps, of other tenants too. Refused: CLOSED, BAD_TENANT, BUSY,
- * TOO_MANY_MAPS, BAD_SHAPE, NO_FRAMES. */
+ * pages share frames with equal pages of mergeable maps, of other tenants too: then who chooses contents can make visits slow (docs/MERGING.md).
+ * Refused: CLOSED, BAD_TENANT, BUSY, TOO_MANY_MAPS, BAD_SHAPE, NO_FRAMES. */
 uint32_t bpf_host_create_map(struct bpf_host *host, uint32_t tenant, uint32_t value_size, uint32_t entries, bool mergeable, uint32_t *map,
                              struct bpf_host_refused *refused) BPF_HOST_NONNULL;
 
