@@ -15,6 +15,9 @@ static uint8_t file[1 << 20];
 static struct bpf_host_object object, running;
 static struct bpf_host_refused refused;
 
+/* Whether pages of maps may share frames with equal ones of others: it saves memory, and costs visits and time. */
+static const bool share_pages = false;
+
 /* A `struct request` of client 7. */
 static const uint8_t request[8] = {7};
 
@@ -56,7 +59,7 @@ static size_t receive(const char *path)
 static uint32_t load_apart(struct bpf_host *host, uint32_t *tenant, uint32_t *program)
 {
     uint32_t spare = 1 - *tenant, next = 0;
-    uint32_t code = bpf_host_load_object(host, spare, &object, false, &next, &refused);
+    uint32_t code = bpf_host_load_object(host, spare, &object, share_pages, &next, &refused);
     if (code != 0)
         return code;
     must(bpf_host_unload(host, *tenant, *program));
@@ -84,17 +87,17 @@ int main(int argc, char **argv)
 {
     size_t size = argc > 1 ? receive(argv[1]) : 0;
     struct bpf_host host = {0};
-    struct bpf_host_options options = BPF_HOST_OPTIONS;
+    struct bpf_host_options defaults = BPF_HOST_OPTIONS;
     struct bpf_host_run run = {0, 0};
     uint32_t code, tenant = 0, program = 0;
     uint8_t window[8] = {0};
-    must(bpf_host_new(32, 2, &options, &host));                     /* 32 pages of 4 KiB; tenants 0 and 1 */
-    /* Reading verifies (inputs have 8 bytes), loading makes the maps. */
+    must(bpf_host_new(32, 2, &defaults, &host));                    /* 32 pages of 4 KiB, two tenants (customers) */
+    /* For each upload: reading verifies it (inputs have 8 bytes), loading makes its maps. */
     code = bpf_host_read_object(file, size, "admit", strlen("admit"), 8, &object, &refused);
     if (code == 0)
-        code = bpf_host_load_object(&host, tenant, &object, false, &program, &refused);
+        code = bpf_host_load_object(&host, tenant, &object, share_pages, &program, &refused);
     if (code != 0)
-        return reject(code);                                        /* bad file? see object.why */
+        return reject(code);                                        /* object.why has the line of C */
     running = object;
     for (int upload = 2;; upload++) {
         code = bpf_host_run(&host, tenant, program, request, 8, &run, &refused); /* for each request */

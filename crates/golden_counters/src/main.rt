@@ -187,15 +187,24 @@ fn obey<W: Write>(
     print(writer, outcome)
 }
 
+/// Does what each line of the input says.
+fn obey_all<W: Write>(
+    rt: &(impl AllocGlobal + Input),
+    writer: &mut W,
+    memory: &mut Memory,
+) -> io::Result<()> {
+    for line in rt.lines(rt.alloc()) {
+        let line = line?;
+        writeln!(writer, "> {line}")?;
+        obey(writer, rt.alloc(), memory, line.as_str())?;
+    }
+    Ok(())
+}
+
 fn main(rt: HostRuntime) -> io::Result<()> {
     let mut out = rt.stdout();
     let Ok(mut memory) = Memory::new(rt.alloc(), 2, 1, Options::standard()) else {
         return Ok(());
     };
-    for line in rt.lines(rt.alloc()) {
-        let line = line?;
-        writeln!(out, "> {line}")?;
-        obey(&mut out, rt.alloc(), &mut memory, line.as_str())?;
-    }
-    Ok(())
+    obey_all(&rt, &mut out, &mut memory)
 }

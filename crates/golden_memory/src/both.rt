@@ -141,6 +141,15 @@ fn unmarked(marks: &[bool]) -> usize {
     count
 }
 
+/// A page without bytes at each index.
+fn no_pages(alloc: Global) -> Result<Vec<Vec<u8>>, AllocError> {
+    let mut pages = Vec::new(alloc);
+    for _ in 0..PAGE_INDICES {
+        pages.push(Vec::new(alloc))?;
+    }
+    Ok(pages)
+}
+
 impl Both {
     /// Both without maps; none where there is no memory of so many frames.
     pub(crate) fn new(
@@ -149,20 +158,17 @@ impl Both {
         options: Options,
     ) -> Result<Option<Both>, AllocError> {
         let plain = PlainSharing::new(alloc, PAGE_INDICES, options)?;
-        let mut contents = Vec::new(alloc);
-        for _ in 0..PAGE_INDICES {
-            contents.push(Vec::new(alloc))?;
+        let contents = no_pages(alloc)?;
+        match Memory::new(alloc, frames, TENANTS, options) {
+            Ok(memory) => Ok(Some(Both {
+                memory,
+                plain,
+                contents,
+                runs: [None; 2],
+                frames,
+            })),
+            Err(_) => Ok(None),
         }
-        let Ok(memory) = Memory::new(alloc, frames, TENANTS, options) else {
-            return Ok(None);
-        };
-        Ok(Some(Both {
-            memory,
-            plain,
-            contents,
-            runs: [None; 2],
-            frames,
-        }))
     }
 
     /// Makes a map of zeros. It answers whether a refusal for want of frames gives as many as the plain

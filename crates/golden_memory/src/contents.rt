@@ -22,12 +22,18 @@ const TENANTS: u32 = 2;
 /// The last eight bytes of a page.
 const LAST: u32 = 4088;
 
-/// A memory with a page for each content of each tenant.
-fn filled(alloc: Global) -> Result<Memory, Fault> {
-    let mut memory = Memory::new(alloc, 4096, TENANTS, Options::standard())?;
+/// Makes the maps of the contents.
+fn make_maps(memory: &mut Memory) -> Result<(), Fault> {
     for map in 0..TENANTS * (CONTENTS / IN_A_MAP) {
         memory.create_map(map % TENANTS, PAGE_SIZE, IN_A_MAP, true)?;
     }
+    Ok(())
+}
+
+/// A memory with a page for each content of each tenant.
+fn filled(alloc: Global) -> Result<Memory, Fault> {
+    let mut memory = Memory::new(alloc, 4096, TENANTS, Options::standard())?;
+    make_maps(&mut memory)?;
     Ok(memory)
 }
 
@@ -77,15 +83,19 @@ fn visits(memory: &mut Memory, times: u32, wanted: Visited) -> u32
 
 /// How many contents are paired, and how many are found again after one page of each left its group and was given the
 /// same bytes.
+fn found_in(memory: &mut Memory) -> [u32; 2] {
+    if !store_all(memory, 0) || !store_all(memory, 1) {
+        return [0, 0];
+    }
+    let paired = visits(memory, 2, Visited::Paired);
+    if !store_all(memory, 1) {
+        return [paired, 0];
+    }
+    [paired, visits(memory, 1, Visited::Joined)]
+}
+
+/// What is found in a new memory.
 pub(crate) fn found_again(alloc: Global) -> Result<[u32; 2], Fault> {
     let mut memory = filled(alloc)?;
-    if !store_all(&mut memory, 0) || !store_all(&mut memory, 1) {
-        return Ok([0, 0]);
-    }
-    let paired = visits(&mut memory, 2, Visited::Paired);
-    if !store_all(&mut memory, 1) {
-        return Ok([paired, 0]);
-    }
-    let joined = visits(&mut memory, 1, Visited::Joined);
-    Ok([paired, joined])
+    Ok(found_in(&mut memory))
 }

@@ -97,26 +97,46 @@ fn operate(
     }
 }
 
+/// Whether an operation that is drawn gives the same, and leaves both alike.
+fn agrees(alloc: Global, both: &mut Both, draws: &mut Draws, pages: u32) -> Result<bool, AllocError>
+    requires some { 0 < pages }
+    requires few { pages ≤ 256 }
+{
+    let is_reported = operate(alloc, both, draws, pages)?;
+    Ok(is_reported && both.agree(alloc)? && both.bytes_agree())
+}
+
 /// The number of the first operation after which both don't give the same.
-fn first_wrong(alloc: Global, frames: u32) -> Result<Option<u32>, AllocError> {
-    let pages = frames / 8 % 128 + 2;
-    let mut draws = Draws::new(u64::from(frames));
-    let Some(mut both) = Both::new(alloc, frames, Options::standard())? else {
-        return Ok(Some(0));
-    };
+fn first_of(
+    alloc: Global,
+    both: &mut Both,
+    draws: &mut Draws,
+    pages: u32,
+) -> Result<Option<u32>, AllocError>
+    requires some { 0 < pages }
+    requires few { pages ≤ 256 }
+{
     for number in 0..OPERATIONS {
-        let is_reported = operate(alloc, &mut both, &mut draws, pages)?;
-        if !is_reported || !both.agree(alloc)? || !both.bytes_agree() {
+        if !agrees(alloc, both, draws, pages)? {
             return Ok(Some(number));
         }
     }
     Ok(None)
 }
 
+/// The number of the first operation on so many frames after which both don't give the same.
+fn first_wrong(alloc: Global, frames: u32) -> Result<Option<u32>, AllocError> {
+    let pages = frames / 8 % 128 + 2;
+    let mut draws = Draws::new(u64::from(frames));
+    match Both::new(alloc, frames, Options::standard())? {
+        Some(mut both) => first_of(alloc, &mut both, &mut draws, pages),
+        None => Ok(Some(0)),
+    }
+}
+
 /// How many passes are counted after each of two visits of the only page, from one before the largest
 /// number on: each visit ends a pass. No number of visits would get there.
-fn passes_at_their_end(alloc: Global) -> Result<[u64; 2], AllocError> {
-    let mut plain = PlainSharing::new(alloc, 1, Options::standard())?;
+fn passes_of(alloc: Global, plain: &mut PlainSharing) -> Result<[u64; 2], AllocError> {
     plain.add(0, true);
     plain.count_from(u64::MAX - 1);
     plain.visit(alloc, &[])?;
@@ -125,26 +145,41 @@ fn passes_at_their_end(alloc: Global) -> Result<[u64; 2], AllocError> {
     Ok([first, plain.full_scans()])
 }
 
-fn main(rt: HostRuntime) -> io::Result<()> {
-    for frames in [3, 4, 16, 256] {
-        match first_wrong(rt.alloc(), frames) {
-            Ok(None) => println!(rt; "{frames} frames: {OPERATIONS} operations agree")?,
-            Ok(Some(number)) => println!(rt; "{frames} frames: operation {number} differs")?,
-            Err(AllocError) => println!(rt; "{frames} frames: no memory")?,
-        }
+/// How many passes are counted where the plain program has one page.
+fn passes_at_their_end(alloc: Global) -> Result<[u64; 2], AllocError> {
+    let mut plain = PlainSharing::new(alloc, 1, Options::standard())?;
+    passes_of(alloc, &mut plain)
+}
+
+/// Prints the row of so many frames.
+fn print_frames(rt: &(impl AllocGlobal + Print), frames: u32) -> io::Result<()> {
+    match first_wrong(rt.alloc(), frames) {
+        Ok(None) => println!(rt; "{frames} frames: {OPERATIONS} operations agree"),
+        Ok(Some(number)) => println!(rt; "{frames} frames: operation {number} differs"),
+        Err(AllocError) => println!(rt; "{frames} frames: no memory"),
     }
+}
+
+/// Prints the row of many contents.
+fn print_contents(rt: &(impl AllocGlobal + Print)) -> io::Result<()> {
     match found_again(rt.alloc()) {
         Ok(found) => {
             let [paired, joined] = found;
             println!(rt;
                 "{CONTENTS} contents on two pages each: {paired} pairs, and {joined} found again"
-            )?
+            )
         }
-        Err(_) => println!(rt; "{CONTENTS} contents: a map or a memory is refused")?,
+        Err(_) => println!(rt; "{CONTENTS} contents: a map or a memory is refused"),
     }
+}
+
+fn main(rt: HostRuntime) -> io::Result<()> {
+    for frames in [3, 4, 16, 256] {
+        print_frames(&rt, frames)?;
+    }
+    print_contents(&rt)?;
     match passes_at_their_end(rt.alloc()) {
-        Ok(passes) => println!(rt; "passes: {passes:?}")?,
-        Err(AllocError) => println!(rt; "passes: no memory")?,
+        Ok(passes) => println!(rt; "passes: {passes:?}"),
+        Err(AllocError) => println!(rt; "passes: no memory"),
     }
-    Ok(())
 }

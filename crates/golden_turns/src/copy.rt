@@ -116,25 +116,31 @@ fn watched_row(rt: &(impl Wait + AllocGlobal)) -> Result<Row, Fault> {
     })
 }
 
+impl Row {
+    /// Writes what is answered.
+    fn print(&self, rt: &impl Print) -> io::Result<()> {
+        println!(rt; "run_on_a_copy: four visits: {:?}", self.merged)?;
+        println!(rt;
+            "run_on_a_copy: before the store and after it: {:?}",
+            self.watched
+        )?;
+        println!(rt; "run_on_a_copy: {:?}", self.reply)?;
+        println!(rt; "run_on_a_copy: unmerged: {:?}", self.unmerged)?;
+        println!(rt; "run_on_a_copy: updated: {:?}", self.updated)?;
+        println!(rt; "run_on_a_copy: values: {:?}", self.values)?;
+        println!(rt;
+            "run_on_a_copy: four visits when the scanner is stopped, and four when it runs: {:?}",
+            self.scanned
+        )?;
+        println!(rt; "run_on_a_copy: sets: {:?}", self.sets)
+    }
+}
+
 /// Writes the row. A run on a copy of the maps, written back at its end, fulfils its contract, as does a scanner
 /// that visits nothing: this row rules them out.
 pub(crate) fn print_row(rt: &(impl Print + Wait + AllocGlobal)) -> io::Result<()> {
-    let row = match watched_row(rt) {
-        Ok(row) => row,
-        Err(fault) => return println!(rt; "run_on_a_copy: {fault}"),
-    };
-    println!(rt; "run_on_a_copy: four visits: {:?}", row.merged)?;
-    println!(rt;
-        "run_on_a_copy: before the store and after it: {:?}",
-        row.watched
-    )?;
-    println!(rt; "run_on_a_copy: {:?}", row.reply)?;
-    println!(rt; "run_on_a_copy: unmerged: {:?}", row.unmerged)?;
-    println!(rt; "run_on_a_copy: updated: {:?}", row.updated)?;
-    println!(rt; "run_on_a_copy: values: {:?}", row.values)?;
-    println!(rt;
-        "run_on_a_copy: four visits when the scanner is stopped, and four when it runs: {:?}",
-        row.scanned
-    )?;
-    println!(rt; "run_on_a_copy: sets: {:?}", row.sets)
+    match watched_row(rt) {
+        Ok(row) => row.print(rt),
+        Err(fault) => println!(rt; "run_on_a_copy: {fault}"),
+    }
 }
