@@ -7,50 +7,111 @@ use crate::file::bytes_at;
 use crate::fronts::fronts_of;
 use crate::runs::{Accepted, print_runs};
 use command_line::{Form, ToLoad, loaded_of};
+use host_types::Bytes;
 use object_text::{ObjectText, text_of};
 use std::alloc::{AllocError, Global};
 use std::io::Write;
 use std::rt::Files;
 use terminal_text::quoted;
 
-/// Does what words ask for: prints what an object file has, or what runs of it return.
+/// Does what words ask for: prints what an object file has, or what runs of it return. Each value that is dropped at the end has a
+/// function of its own, since the drop at each `?` is proved.
 pub fn answer<R, W>(rt: &R, words: &[String], output: &mut W) -> Result<(), Fault>
 where
     R: AllocGlobal + Files,
     W: Write,
 {
-    let alloc = rt.alloc();
-    let asked = loaded_of(alloc, words)?;
-    // What is wrong with words is said before the file is opened.
-    let fronts = fronts_of(alloc, &asked)?;
+    let asked = loaded_of(rt.alloc(), words)?;
+    answer_asked(rt, &asked, output)
+}
+
+/// Does what is asked for. What is wrong with words is said before the file is opened.
+fn answer_asked<R, W>(rt: &R, asked: &ToLoad<'_>, output: &mut W) -> Result<(), Fault>
+where
+    R: AllocGlobal + Files,
+    W: Write,
+{
+    let fronts = fronts_of(rt.alloc(), asked)?;
+    answer_fronts(rt, asked, fronts.as_slice(), output)
+}
+
+/// Does what is asked for of a file, whose runs are on contexts that begin with these bytes.
+fn answer_fronts<R, W>(
+    rt: &R,
+    asked: &ToLoad<'_>,
+    fronts: &[Bytes],
+    output: &mut W,
+) -> Result<(), Fault>
+where
+    R: AllocGlobal + Files,
+    W: Write,
+{
     let bytes = bytes_at(rt, asked.path)?;
-    let object = object_of(alloc, &asked, bytes.as_slice())?;
-    match &asked.form {
-        Form::Events => {
-            let hex = hex_text(alloc, &asked, bytes.as_slice(), &object)?;
-            written(write_events(
-                alloc,
-                &object,
-                hex.as_str(),
-                asked.tenant,
-                asked.context,
-                output,
-            ))
+    let read = Read {
+        alloc: rt.alloc(),
+        asked,
+        fronts,
+        bytes: bytes.as_slice(),
+    };
+    read.answer(output)
+}
+
+/// A file that is read, and what is asked for of it.
+#[derive(Clone, Copy)]
+struct Read<'a> {
+    alloc: Global,
+    asked: &'a ToLoad<'a>,
+    fronts: &'a [Bytes],
+    bytes: &'a [u8],
+}
+
+impl<'a> Read<'a> {
+    fn answer<W: Write>(self, output: &mut W) -> Result<(), Fault> {
+        let object = object_of(self.alloc, self.asked, self.bytes)?;
+        self.answer_object(&object, output)
+    }
+
+    fn answer_object<W: Write>(self, object: &ObjectText, output: &mut W) -> Result<(), Fault> {
+        match &self.asked.form {
+            Form::Events => self.print_events(object, output),
+            Form::Hex => {
+                let hex = self.hex_text(object)?;
+                written(writeln!(output, "{hex}"))
+            }
+            Form::Maps => written(write_shapes(object, output)),
+            Form::Runs(_) => self.print_runs(object, output),
         }
-        Form::Hex => {
-            let hex = hex_text(alloc, &asked, bytes.as_slice(), &object)?;
-            written(writeln!(output, "{hex}"))
+    }
+
+    fn print_events<W: Write>(self, object: &ObjectText, output: &mut W) -> Result<(), Fault> {
+        let hex = self.hex_text(object)?;
+        written(write_events(
+            self.alloc,
+            object,
+            hex.as_str(),
+            self.asked.tenant,
+            self.asked.context,
+            output,
+        ))
+    }
+
+    fn print_runs<W: Write>(self, object: &ObjectText, output: &mut W) -> Result<(), Fault> {
+        let text = accepted_text(self.alloc, self.asked, self.bytes, object)?;
+        let accepted = Accepted {
+            text: text.as_slice(),
+            maps: object.maps.as_slice(),
+            context_size: self.asked.context,
+        };
+        print_runs(self.alloc, &accepted, self.fronts, output)
+    }
+
+    /// The hex text of an object's program, as the verifier accepts it if it isn't asked for as it is.
+    fn hex_text(self, object: &ObjectText) -> Result<String, Fault> {
+        if self.asked.as_is {
+            return Ok(hex_of(self.alloc, object.text.as_slice())?);
         }
-        Form::Maps => written(write_shapes(&object, output)),
-        Form::Runs(_) => {
-            let text = accepted_text(alloc, &asked, bytes.as_slice(), &object)?;
-            let accepted = Accepted {
-                text: text.as_slice(),
-                maps: object.maps.as_slice(),
-                context_size: asked.context,
-            };
-            print_runs(alloc, &accepted, fronts.as_slice(), output)
-        }
+        let text = accepted_text(self.alloc, self.asked, self.bytes, object)?;
+        Ok(hex_of(self.alloc, text.as_slice())?)
     }
 }
 
@@ -61,18 +122,4 @@ fn object_of(alloc: Global, asked: &ToLoad<'_>, bytes: &[u8]) -> Result<ObjectTe
         Err(error) if error.is_out_of_memory() => Err(Fault::OutOfMemory(AllocError)),
         Err(error) => Err(Fault::Refused(quoted(alloc, asked.path)?, error)),
     }
-}
-
-/// The hex text of an object's program, as the verifier accepts it if it isn't asked for as it is.
-fn hex_text(
-    alloc: Global,
-    asked: &ToLoad<'_>,
-    bytes: &[u8],
-    object: &ObjectText,
-) -> Result<String, Fault> {
-    if asked.as_is {
-        return Ok(hex_of(alloc, object.text.as_slice())?);
-    }
-    let text = accepted_text(alloc, asked, bytes, object)?;
-    Ok(hex_of(alloc, text.as_slice())?)
 }

@@ -36,12 +36,20 @@ where
     R: AllocGlobal + Env + Files + Input + Print,
 {
     let words = words_from(rt)?;
+    answer_words(rt, words.as_slice())
+}
+
+/// Does what words ask for, or each line of the standard input where there are none.
+fn answer_words<R>(rt: &R, words: &[String]) -> Result<(), Fault>
+where
+    R: AllocGlobal + Files + Input + Print,
+{
     let output = BufWriter::new(rt.alloc(), io::writer(rt));
     let mut output = output.map_err(|_| Fault::OutOfMemory(AllocError))?;
     if words.len() < 2 {
         answer_lines(rt, &mut output)?;
     } else {
-        answer(rt, words.as_slice(), &mut output)?;
+        answer(rt, words, &mut output)?;
     }
     written(output.flush())
 }
@@ -86,13 +94,27 @@ where
     written(writeln!(output, "$ {line}"))?;
     let words = words_of(alloc, line)?;
     let outcome = answer(rt, words.as_slice(), output);
-    if let Err(fault) = &outcome {
-        let mut said = Vec::new(alloc);
-        written(write_fault(&mut said, fault))?;
-        written(write_lines(said.as_slice(), output))?;
+    write_outcome(alloc, &outcome, output)
+}
+
+/// Writes what goes to standard error, and the status.
+fn write_outcome<W: Write>(
+    alloc: Global,
+    outcome: &Result<(), Fault>,
+    output: &mut W,
+) -> Result<(), Fault> {
+    if let Err(fault) = outcome {
+        write_said(alloc, fault, output)?;
     }
-    let status = status_of(&outcome);
+    let status = status_of(outcome);
     written(writeln!(output, "status {status}"))
+}
+
+/// Writes the words of a fault.
+fn write_said<W: Write>(alloc: Global, fault: &Fault, output: &mut W) -> Result<(), Fault> {
+    let mut said = Vec::new(alloc);
+    written(write_fault(&mut said, fault))?;
+    written(write_lines(said.as_slice(), output))
 }
 
 /// Writes each line of a text after `! `.

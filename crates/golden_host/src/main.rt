@@ -17,6 +17,7 @@ use cli::{Progress, answer_words};
 use engines::{status_of, write_fault};
 use host_file::FileFault;
 use printed::Printed;
+use std::alloc::{AllocError, Global};
 use std::io;
 use std::io::{Input, Write};
 use std::process::ExitCode;
@@ -94,6 +95,16 @@ impl Write for Broken {
     }
 }
 
+/// The words of a command line, after the program's name.
+fn words_of(alloc: Global, line: &str) -> Result<Vec<String>, AllocError> {
+    let mut words = Vec::new(alloc);
+    words.push(String::from_str(alloc, "bpf_host")?)?;
+    for word in line.split(' ') {
+        words.push(String::from_str(alloc, word)?)?;
+    }
+    Ok(words)
+}
+
 impl Printed {
     /// Does what the words of a command line ask for.
     fn command<R: AllocGlobal + Clock + Files + Threads + Wait + Sync>(
@@ -102,11 +113,7 @@ impl Printed {
         line: &str,
     ) -> Result<u8, FileFault> {
         let alloc = rt.alloc();
-        let mut words = Vec::new(alloc);
-        words.push(String::from_str(alloc, "bpf_host")?)?;
-        for word in line.split(' ') {
-            words.push(String::from_str(alloc, word)?)?;
-        }
+        let words = words_of(alloc, line)?;
         let progress = Progress::new(rt, Vec::new(alloc), false);
         answer_words(
             rt,
@@ -181,6 +188,24 @@ fn print_lines(rt: &impl Print, mark: &str, bytes: &[u8]) -> io::Result<()> {
     Ok(())
 }
 
+/// Prints what a request is answered, below the request.
+fn print_printed(rt: &impl Print, head: &str, printed: &Printed) -> io::Result<()> {
+    println!(rt; "{head}")?;
+    print_lines(rt, "", printed.output.as_slice())?;
+    print_lines(rt, "! ", printed.words.as_slice())
+}
+
+/// Prints the last line of an answer.
+fn print_outcome(
+    rt: &(impl AllocGlobal + Print),
+    outcome: &Result<u8, FileFault>,
+) -> io::Result<()> {
+    match outcome {
+        Ok(status) => println!(rt; "= {status}"),
+        Err(fault) => print_fault(rt, fault),
+    }
+}
+
 /// Prints a request and what it is answered. Answers the exit status that it would have.
 fn print_answer<R: AllocGlobal + Clock + Files + Print + Threads + Wait + Sync>(
     rt: &R,
@@ -190,13 +215,8 @@ fn print_answer<R: AllocGlobal + Clock + Files + Print + Threads + Wait + Sync>(
     let line = head.strip_prefix(MARK).unwrap_or(head);
     let mut printed = Printed::new(rt.alloc());
     let outcome = printed.answer(rt, line, below);
-    println!(rt; "{head}")?;
-    print_lines(rt, "", printed.output.as_slice())?;
-    print_lines(rt, "! ", printed.words.as_slice())?;
-    match &outcome {
-        Ok(status) => println!(rt; "= {status}")?,
-        Err(fault) => print_fault(rt, fault)?,
-    }
+    print_printed(rt, head, &printed)?;
+    print_outcome(rt, &outcome)?;
     Ok(status_of(&outcome))
 }
 
@@ -210,23 +230,65 @@ fn print_fault(rt: &(impl AllocGlobal + Print), fault: &FileFault) -> io::Result
     )
 }
 
+/// The request whose lines are read: its first line, and those below it.
+struct Request {
+    head: String,
+    below: String,
+}
+
+impl Request {
+    /// Takes one more line of the input. One that begins a request ends the one before, which is answered then.
+    fn take<R: AllocGlobal + Clock + Files + Print + Threads + Wait + Sync>(
+        &mut self,
+        rt: &R,
+        line: String,
+    ) -> io::Result<()> {
+        if !line.as_str().starts_with(MARK) {
+            return self.take_below(line.as_str());
+        }
+        let ended = self.end(rt);
+        self.head = line;
+        ended
+    }
+
+    /// Takes a line below the first one.
+    fn take_below(&mut self, line: &str) -> io::Result<()> {
+        self.below.push_str(line)?;
+        self.below.push('\n')?;
+        Ok(())
+    }
+
+    /// Answers the request, where there is one.
+    fn end<R: AllocGlobal + Clock + Files + Print + Threads + Wait + Sync>(
+        &mut self,
+        rt: &R,
+    ) -> io::Result<()> {
+        if !self.head.is_empty() {
+            print_answer(rt, self.head.as_str(), self.below.as_str())?;
+        }
+        self.below.clear();
+        Ok(())
+    }
+}
+
+/// Answers the requests of the input, but for the last one.
+fn answer_all<R: AllocGlobal + Clock + Files + Input + Print + Threads + Wait + Sync>(
+    rt: &R,
+    request: &mut Request,
+) -> io::Result<()> {
+    for line in rt.lines(rt.alloc()) {
+        request.take(rt, line?)?;
+    }
+    Ok(())
+}
+
 fn main(rt: HostRuntime) -> io::Result<ExitCode> {
     let alloc = rt.alloc();
-    let mut head = String::new(alloc);
-    let mut below = String::new(alloc);
-    for line in rt.lines(alloc) {
-        let line = line?;
-        if line.as_str().starts_with(MARK) {
-            if !head.is_empty() {
-                print_answer(&rt, head.as_str(), below.as_str())?;
-            }
-            below.clear();
-            head = line;
-        } else {
-            below.push_str(line.as_str())?;
-            below.push('\n')?;
-        }
-    }
-    let last = print_answer(&rt, head.as_str(), below.as_str())?;
+    let mut request = Request {
+        head: String::new(alloc),
+        below: String::new(alloc),
+    };
+    answer_all(&rt, &mut request)?;
+    let last = print_answer(&rt, request.head.as_str(), request.below.as_str())?;
     Ok(ExitCode::from(last))
 }

@@ -45,14 +45,19 @@ pub fn write_page<W: Write>(output: &mut W, page: &Page<'_>) -> io::Result<()> {
     write_end(output, &frame)
 }
 
+/// Writes a path, as what it is.
+fn write_path<W: Write>(output: &mut W, alloc: Global, path: &str) -> io::Result<()> {
+    let path = quoted(alloc, path)?;
+    write_inert(alloc, output, path.as_str())
+}
+
 /// Writes what the page is of, and which steps have a row.
 fn write_header<W: Write>(output: &mut W, page: &Page<'_>) -> io::Result<()> {
-    let path = quoted(page.alloc, page.path)?;
     write!(
         output,
         "<header>\n<h1>Merging over the events of <span class=\"program\" id=\"name\">"
     )?;
-    write_inert(page.alloc, output, path.as_str())?;
+    write_path(output, page.alloc, page.path)?;
     let HostFile {
         tenants,
         frames,
