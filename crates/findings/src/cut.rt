@@ -1,10 +1,6 @@
-ghost use Rattle.std.specs.Prelude.{◌↔◌, IfSome, IsTrue};
-ghost use Rattle.host_types.specs.Shapes.{IsShape};
-
-use crate::CheckedText;
+use crate::checked::{CheckedText, is_within_limits};
 use bpf_decode::decode;
 use host_types::limits::MAX_MAPS;
-use host_types::{Refused, Shape};
 use std::alloc::{AllocError, Global};
 use verifier::{Verified, is_context_size, verify};
 
@@ -21,35 +17,15 @@ pub struct Cut<'a> {
     pub slot: usize,
 }
 
-/// Whether a number has no shape, or one within the limits.
-pub fn is_within_limits(shape: &Option<Shape>) -> bool
-    ensures { IsTrue result ↔ IfSome shape.now IsShape }
-{
-    match shape {
-        Some(shape) => shape.is_valid(),
-        None => true,
-    }
-}
-
 impl<'a> Cut<'a> {
     /// The text with another instruction at the slot, where that is accepted. What was known at the slot is known
     /// of it too.
     pub fn with(&self, there: [u8; 8]) -> Option<Verified> {
-        self.decode_and_verify(there)?.ok()
-    }
-
-    /// Whether the text with another instruction at the slot breaks this rule.
-    pub fn is_refused(&self, there: [u8; 8], rule: u32) -> bool {
-        match self.decode_and_verify(there) {
-            Some(Err(refused)) => refused.number == rule,
-            Some(Ok(_)) | None => false,
-        }
-    }
-
-    /// What the verifier says of the text with another instruction at the slot, where there is memory for it.
-    fn decode_and_verify(&self, there: [u8; 8]) -> Option<Result<Verified, Refused>> {
-        let shapes = self.checked.shapes;
-        let context_size = self.checked.context_size;
+        let CheckedText {
+            shapes,
+            context_size,
+            ..
+        } = self.checked;
         if shapes.len() > MAX_MAPS
             || !shapes.iter().all(|shape| is_within_limits(shape))
             || !is_context_size(context_size)
@@ -58,7 +34,7 @@ impl<'a> Cut<'a> {
         }
         let text = self.text(there).ok()?;
         let program = decode(self.alloc, text.as_slice()).ok()?;
-        Some(verify(self.alloc, program, shapes, context_size))
+        verify(self.alloc, program, shapes, context_size).ok()
     }
 
     /// The slots before the refused one, this instruction, and after it as many as there were that break no rule,

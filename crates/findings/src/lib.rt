@@ -3,6 +3,7 @@
 #![tactic(auto)]
 
 mod access;
+mod checked;
 mod cut;
 mod known;
 mod limit;
@@ -12,9 +13,11 @@ mod unset;
 
 pub use access::Access;
 use bpf_decode::{FRAME_POINTER, Insn};
-pub use cut::{CLEAR, Cut, is_within_limits};
+pub use checked::{CheckedText, is_within_limits};
+pub use cut::{CLEAR, Cut};
+use host_types::Refused;
 use host_types::rule::{NULL_NOT_CHECKED, POINTER_LEAKS, UNSET_REGISTER};
-use host_types::{Refused, Shape};
+use knowledge::Knowledge;
 use known::Known;
 pub use known::{Moved, Multiple};
 use limit::Limit;
@@ -27,14 +30,6 @@ use std::io;
 use std::io::Write;
 use unset::write_unset_bytes;
 
-/// What a text was verified for: maps of these shapes, by number, each there or not, and a context of so many bytes.
-#[derive(Clone, Copy)]
-pub struct CheckedText<'a> {
-    pub text: &'a [u8],
-    pub shapes: &'a [Option<Shape>],
-    pub context_size: u32,
-}
-
 /// Writes what was known at the slot of a refusal, each finding after a `; `. Of a refusal that goes by no
 /// register, and where there is no memory, nothing is written.
 pub fn write_findings<W: Write>(
@@ -43,26 +38,31 @@ pub fn write_findings<W: Write>(
     checked: &CheckedText<'_>,
     refused: Refused,
 ) -> io::Result<()> {
-    let slot = refused.slot as usize;
-    let cut = Cut {
-        alloc,
-        checked: *checked,
-        slot,
-    };
-    let (Some(insn), true) = (Insn::at(checked.text, slot), is_of_values(refused)) else {
-        return Ok(());
-    };
-    let Some(verified) = cut.with(CLEAR) else {
-        return Ok(());
-    };
+    match Insn::at(checked.text, refused.slot as usize) {
+        Some(insn) if is_of_values(refused) => match checked.knowledge(alloc) {
+            Some(knowledge) => write_known_at(output, checked, refused, insn, &knowledge),
+            None => Ok(()),
+        },
+        _ => Ok(()),
+    }
+}
+
+/// Writes what was known at the slot of an instruction that is refused.
+fn write_known_at<W: Write>(
+    output: &mut W,
+    checked: &CheckedText<'_>,
+    refused: Refused,
+    insn: Insn,
+    knowledge: &Knowledge,
+) -> io::Result<()> {
     let site = Site {
         checked: *checked,
         refused,
         insn,
-        kinds: Kinds::at(&verified, refused.slot),
+        kinds: Kinds::at(knowledge, refused.slot),
     };
     write_registers(output, &site)?;
-    write_unset_bytes(output, &cut, &site)
+    write_unset_bytes(output, knowledge, &site)
 }
 
 /// Writes what is known of the registers that an instruction reads, and what may stand there, each after a `; `,

@@ -1,7 +1,7 @@
 use crate::CheckedText;
 use bpf_decode::{FRAME_POINTER, Insn};
 use host_types::Refused;
-use verifier::Verified;
+use knowledge::Knowledge;
 use verifier_kinds::Kind;
 
 /// What is known of each register.
@@ -9,11 +9,11 @@ use verifier_kinds::Kind;
 pub struct Kinds(pub [Option<Kind>; 11]);
 
 impl Kinds {
-    /// Those at a slot of a program.
-    pub fn at(verified: &Verified, slot: u32) -> Kinds {
+    /// Those at a slot of a text.
+    pub fn at(knowledge: &Knowledge, slot: u32) -> Kinds {
         let mut kinds = [None; 11];
         for register in 0..FRAME_POINTER + 1 {
-            kinds[usize::from(register)] = verified.kind(slot, register);
+            kinds[usize::from(register)] = knowledge.kind(slot, register);
         }
         Kinds(kinds)
     }

@@ -9,8 +9,8 @@ use findings::{CLEAR, CheckedText, Cut, is_within_limits};
 use host_types::limits::MAX_MAPS;
 use host_types::{Refused, Shape};
 use knowledge::Knowledge;
-use std::alloc::{AllocError, Global};
-use verifier::{Candidate, Verified, is_context_size, verify};
+use std::alloc::Global;
+use verifier::{Verified, is_context_size, verify};
 
 /// What is printed of a text.
 #[derive(Drop)]
@@ -34,13 +34,9 @@ impl Known {
     /// What is known of a text that was verified: nothing where no text can be verified so, where it isn't well formed, and where
     /// there is no memory.
     pub fn of(alloc: Global, checked: &CheckedText<'_>) -> Option<Known> {
-        if checked.shapes.len() > MAX_MAPS
-            || !checked.shapes.iter().all(|shape| is_within_limits(shape))
-            || !is_context_size(checked.context_size)
-        {
-            return None;
-        }
-        known_in(alloc, checked.text, checked.shapes, checked.context_size)
+        let knowledge = checked.knowledge(alloc)?;
+        let edges = Edges::of(alloc, &knowledge).ok()?;
+        Some(Known { knowledge, edges })
     }
 }
 
@@ -53,7 +49,7 @@ impl Listed {
         {
             return None;
         }
-        let known = known_in(alloc, checked.text, checked.shapes, checked.context_size);
+        let known = Known::of(alloc, checked);
         Some(
             match verified_of(alloc, checked.text, checked.shapes, checked.context_size) {
                 Ok(verified) => Listed {
@@ -101,25 +97,4 @@ fn verified_before(alloc: Global, checked: &CheckedText<'_>, refused: Refused) -
         slot: refused.slot as usize,
     };
     cut.with(CLEAR)
-}
-
-/// What is known at the slots of a text, if it is well formed and there is memory for it.
-fn known_in(
-    alloc: Global,
-    text: &[u8],
-    shapes: &[Option<Shape>],
-    context_size: u32,
-) -> Option<Known>
-    requires shapes { AreShapes shapes.now }
-    requires context { IsContextSize context_size }
-{
-    let program = decode(alloc, text).ok()?;
-    known_of(alloc, Candidate::new(program, shapes, context_size)).ok()
-}
-
-/// What is known at the slots of a candidate's text.
-fn known_of(alloc: Global, candidate: Candidate) -> Result<Known, AllocError> {
-    let knowledge = Knowledge::of(alloc, candidate)?;
-    let edges = Edges::of(alloc, &knowledge)?;
-    Ok(Known { knowledge, edges })
 }
