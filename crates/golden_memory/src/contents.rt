@@ -22,19 +22,19 @@ const TENANTS: u32 = 2;
 /// The last eight bytes of a page.
 const LAST: u32 = 4088;
 
+/// A memory with a page for each content of each tenant.
+fn filled(alloc: Global) -> Result<Memory, Fault> {
+    let mut memory = Memory::new(alloc, 4096, TENANTS, Options::standard())?;
+    make_maps(&mut memory)?;
+    Ok(memory)
+}
+
 /// Makes the maps of the contents.
 fn make_maps(memory: &mut Memory) -> Result<(), Fault> {
     for map in 0..TENANTS * (CONTENTS / IN_A_MAP) {
         memory.create_map(map % TENANTS, PAGE_SIZE, IN_A_MAP, true)?;
     }
     Ok(())
-}
-
-/// A memory with a page for each content of each tenant.
-fn filled(alloc: Global) -> Result<Memory, Fault> {
-    let mut memory = Memory::new(alloc, 4096, TENANTS, Options::standard())?;
-    make_maps(&mut memory)?;
-    Ok(memory)
 }
 
 /// Stores a number of eight bytes at an index of a tenant's page; whether the page and what that takes were there.
