@@ -211,9 +211,10 @@ function addTerm(list, term, ...children) {
     list.append(make("dt", "", term), make("dd", "", null, ...children));
 }
 
-/** What a refusal says: what is wrong, how to fix it, and what is known there. */
+/** What a refusal says: the line of its source, what is wrong, how to fix it, and what is known there. */
 function makeRefusal(refused) {
     const list = make("dl");
+    if (refused.source) addTerm(list, "In the source", refused.source);
     if (refused.wrong) addTerm(list, "What is wrong", refused.wrong);
     if (refused.fix) addTerm(list, "How to fix it", refused.fix);
     if (refused.known) addTerm(list, "What is known", refused.known);

@@ -4,4 +4,4 @@
 pub const STYLE_HASH: &str = "7VvtodT7T0NwiZPCEoBz1gEkYj6S0Oy8/z+GPADeGcc=";
 
 /// The SHA-256 of both parts of the script, one after the other.
-pub const SCRIPT_HASH: &str = "wV4wgie5hcabfDJOCfFhWCyMnjuItRxUD+JzKLLNyiM=";
+pub const SCRIPT_HASH: &str = "OsKK1HVcYDdsoQvu9jhkdctpWnroBLy+yum/2fF10ec=";

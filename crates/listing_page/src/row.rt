@@ -173,7 +173,7 @@ impl<'a> Rows<'a> {
         write!(output, "]")
     }
 
-    /// Writes a refusal: its number and name, what is wrong, how to fix it, and what is known at its slot.
+    /// Writes a refusal: its number and name, what is wrong, how to fix it, the line of its source, and what is known at its slot.
     fn write_refused<W: Write>(&self, output: &mut W, refused: Refused) -> io::Result<()> {
         let alloc = self.listing.alloc();
         write!(
@@ -188,11 +188,20 @@ impl<'a> Rows<'a> {
             write!(output, ",\"fix\":")?;
             write_string(alloc, output, advice.fix)?;
         }
+        if let Some(source) = self.listing.source(refused.slot) {
+            write!(output, ",\"source\":")?;
+            write_string(alloc, output, source)?;
+        }
         write!(output, ",\"known\":")?;
+        self.write_findings(output, refused)?;
+        write!(output, "}}")
+    }
+
+    /// Writes what is known at the slot of a refusal.
+    fn write_findings<W: Write>(&self, output: &mut W, refused: Refused) -> io::Result<()> {
         let words = self.findings(refused)?;
         let words = str::from_utf8(words.as_slice()).unwrap_or("");
-        write_string(alloc, output, words.trim_start_matches("; "))?;
-        write!(output, "}}")
+        write_string(self.listing.alloc(), output, words.trim_start_matches("; "))
     }
 
     /// What is known at the slot of a refusal, each finding after a `; `.
