@@ -38,21 +38,44 @@ fn words_of(alloc: Global, path: &str, line: &str) -> Result<Vec<String>, AllocE
 fn print_asked(rt: &(impl AllocGlobal + Print), line: &str) -> io::Result<()> {
     println!(rt; "$ {}", line.escape_debug())?;
     if let Some(words) = line.strip_prefix("explain") {
-        let words = words_of(rt.alloc(), EXPLAIN, words.trim_start())?;
-        return print_asked_of(rt, explained_of(rt.alloc(), words.as_slice()));
+        print_explained(rt, words.trim_start())
+    } else if let Some(words) = line.strip_prefix("lower") {
+        print_lowered(rt, words.trim_start())
+    } else if let Some(words) = line.strip_prefix("merging") {
+        print_drawn(rt, words.trim_start())
+    } else if let Some(words) = line.strip_prefix("bpf_object") {
+        print_loaded(rt, words.trim_start())
+    } else {
+        print_requested(rt, line)
     }
-    if let Some(words) = line.strip_prefix("lower") {
-        let words = words_of(rt.alloc(), LOWER, words.trim_start())?;
-        return print_asked_of(rt, lowered_of(rt.alloc(), words.as_slice()));
-    }
-    if let Some(words) = line.strip_prefix("merging") {
-        let words = words_of(rt.alloc(), MERGING, words.trim_start())?;
-        return print_asked_of(rt, drawn_of(rt.alloc(), words.as_slice()));
-    }
-    if let Some(words) = line.strip_prefix("bpf_object") {
-        let words = words_of(rt.alloc(), BPF_OBJECT, words.trim_start())?;
-        return print_answer(rt, loaded_of(rt.alloc(), words.as_slice()));
-    }
+}
+
+/// Prints what words ask `explain` for.
+fn print_explained(rt: &(impl AllocGlobal + Print), line: &str) -> io::Result<()> {
+    let words = words_of(rt.alloc(), EXPLAIN, line)?;
+    print_asked_of(rt, explained_of(rt.alloc(), words.as_slice()))
+}
+
+/// Prints what words ask `lower` for.
+fn print_lowered(rt: &(impl AllocGlobal + Print), line: &str) -> io::Result<()> {
+    let words = words_of(rt.alloc(), LOWER, line)?;
+    print_asked_of(rt, lowered_of(rt.alloc(), words.as_slice()))
+}
+
+/// Prints what words ask `merging` for.
+fn print_drawn(rt: &(impl AllocGlobal + Print), line: &str) -> io::Result<()> {
+    let words = words_of(rt.alloc(), MERGING, line)?;
+    print_asked_of(rt, drawn_of(rt.alloc(), words.as_slice()))
+}
+
+/// Prints what words ask `bpf_object` for.
+fn print_loaded(rt: &(impl AllocGlobal + Print), line: &str) -> io::Result<()> {
+    let words = words_of(rt.alloc(), BPF_OBJECT, line)?;
+    print_answer(rt, loaded_of(rt.alloc(), words.as_slice()))
+}
+
+/// Prints what words ask `bpf_host` for.
+fn print_requested(rt: &(impl AllocGlobal + Print), line: &str) -> io::Result<()> {
     let words = words_of(rt.alloc(), BPF_HOST, line)?;
     print_answer(rt, request_of(rt.alloc(), words.as_slice()))
 }
