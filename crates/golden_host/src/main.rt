@@ -231,6 +231,7 @@ fn print_fault(rt: &(impl AllocGlobal + Print), fault: &FileFault) -> io::Result
 }
 
 /// The request whose lines are read: its first line, and those below it.
+#[derive(Drop)]
 struct Request {
     head: String,
     below: String,
