@@ -61,17 +61,10 @@ pub fn history_of(alloc: Global, file: &HostFile) -> Result<History, Fault> {
 fn replayed(alloc: Global, host: Host, file: &HostFile) -> Result<History, AllocError> {
     let commands = file.commands.as_slice();
     let mut recorder = Recorder::new(alloc, host, file)?;
-    // The points are taken out before the next `?`, so that the rest is dropped in one place.
-    let performed = recorder.perform_all(commands);
-    let points = recorder.points;
-    performed?;
-    let (points, steps, stride) = points.finish()?;
-    Ok(History {
-        points,
-        steps,
-        stride,
-        events: commands.len(),
-    })
+    match recorder.perform_all(commands) {
+        Ok(()) => recorder.history(commands.len()),
+        Err(error) => Err(error),
+    }
 }
 
 /// No run that a tenant has begun, of each.
@@ -93,6 +86,18 @@ impl Recorder {
             pages_to_scan: file.options.pages_to_scan,
             begun,
             points: Thinned::new(alloc),
+        })
+    }
+
+    /// The history of a file of so many events. The host is dropped before what may fail.
+    fn history(self, events: usize) -> Result<History, AllocError> {
+        let Recorder { points, .. } = self;
+        let (points, steps, stride) = points.finish()?;
+        Ok(History {
+            points,
+            steps,
+            stride,
+            events,
         })
     }
 

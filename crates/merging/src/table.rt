@@ -41,8 +41,7 @@ fn write_row<W: Write>(
         Some(number) => {
             write!(output, "<tr><td>{number}<td>")?;
             if let Some(command) = commands.get(number) {
-                let words = format!(in alloc; "{}", Words(command))?;
-                write_inert(alloc, output, words.as_str())?;
+                write_command(alloc, output, command)?;
             }
             if let Some((made, count)) = point.visits {
                 write!(output, ": {made} of {count}")?;
@@ -59,6 +58,12 @@ fn write_row<W: Write>(
         write_inert(alloc, output, line)?;
     }
     write_counters(output, &point.counters)
+}
+
+/// Writes what a command does.
+fn write_command<W: Write>(alloc: Global, output: &mut W, command: &Command) -> io::Result<()> {
+    let words = format!(in alloc; "{}", Words(command))?;
+    write_inert(alloc, output, words.as_str())
 }
 
 /// Writes the cells of the counters, in the order of the kernel's manual.
