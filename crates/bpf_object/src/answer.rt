@@ -47,25 +47,25 @@ where
     W: Write,
 {
     let bytes = bytes_at(rt, asked.path)?;
-    let read = Read {
+    let file = ReadFile {
         alloc: rt.alloc(),
         asked,
         fronts,
         bytes: bytes.as_slice(),
     };
-    read.answer(output)
+    file.answer(output)
 }
 
 /// A file that is read, and what is asked for of it.
 #[derive(Clone, Copy)]
-struct Read<'a> {
+struct ReadFile<'a> {
     alloc: Global,
     asked: &'a ToLoad<'a>,
     fronts: &'a [Bytes],
     bytes: &'a [u8],
 }
 
-impl<'a> Read<'a> {
+impl<'a> ReadFile<'a> {
     fn answer<W: Write>(self, output: &mut W) -> Result<(), Fault> {
         let object = object_of(self.alloc, self.asked, self.bytes)?;
         self.answer_object(&object, output)
