@@ -8,7 +8,7 @@ enum status { OK = 200, FORBIDDEN = 403, TOO_MANY = 429 };
 /* What the host's program passes of a request. */
 struct request {
     u32 client; /* the number of its key */
-    u32 minute; /* since 1970 */
+    u32 minute; /* since 1970; one that lies before the client's last minute counts as that */
 };
 
 /* A client's last minute, and how many requests it made in it. */
@@ -31,7 +31,7 @@ u64 admit(const struct request *request)
     struct window *window = bpf_map_lookup_elem(&windows, &client);
     if (!window)
         return FORBIDDEN;
-    if (window->minute != request->minute)
+    if (window->minute < request->minute)
         *window = (struct window){request->minute, 0};
     return ++window->requests <= LIMIT ? OK : TOO_MANY;
 }

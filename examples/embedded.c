@@ -1,16 +1,22 @@
-/* Runs a filter from an object file in a program of C, and then further ones, each in place of the one before (docs/EMBEDDING.md). At the top:
+/* Runs a customer's filter from an object file in a program of C, and then further ones, each in place of the one before (docs/EMBEDDING.md). At the
+ * top:
  *
  *     clang -g -O2 -target bpf -c examples/caps.c -o caps.o
  *     cc examples/embedded.c -Iinclude $(tools/static_library) -o embedded && ./embedded caps.o
  *
- * It prints 200, since a client's first request passes, and `requests: 1`, which its map holds then: with three files that have the same maps, 200,
- * 200 and 429, as the count goes on. Of a file that is refused it prints why, with the line of C. */
+ * It prints 200, since a client's first request passes, and `requests: 1`, which the filter's map holds then: with three files that have the same
+ * maps, 200, 200 and 429, as the count goes on. Of a file that is refused it prints why, with the line of C, and goes on with the one before. */
 #include "bpf_host.h"
 #include <stdio.h>
 #include <stdlib.h>
 #include <string.h>
 
-/* The bytes of an upload, its program, and the program that runs: static, since they are large. */
+enum {
+    TENANTS = 2, /* a customer, and a spare tenant for a new version with other maps */
+    QUOTA = 4    /* the most pages of 4 KiB that the maps of an upload may take */
+};
+
+/* The bytes of an upload, its program, and the program that runs: static, since they are large. A thread that reads uploads has its own. */
 static uint8_t file[1 << 20];
 static struct bpf_host_object object, running;
 static struct bpf_host_refused refused;
@@ -21,28 +27,24 @@ static const bool share_pages = false;
 /* A `struct request` of client 7. */
 static const uint8_t request[8] = {7};
 
-/* Prints a refusal's name and, of an upload, why; then clears that. */
-static void print_refusal(uint32_t code)
+/* Says why an upload is refused, and what a program exits with that has none to run. */
+static int reject(uint32_t code)
 {
     printf("%s\n%s\n", bpf_host_code_name(code), object.why);
     object.why[0] = 0;
-}
-
-/* Says why an upload is refused, and what the program exits with. */
-static int reject(uint32_t code)
-{
-    print_refusal(code);
     return 1;
 }
 
-/* Ends the program where a call was refused. */
+/* Ends the program where it can't go on: no upload leads here. */
 static void must(uint32_t code)
 {
-    if (code != 0)
-        exit(reject(code));
+    if (code != 0) {
+        fprintf(stderr, "%s\n", bpf_host_code_name(code));
+        exit(1);
+    }
 }
 
-/* Reads an upload, and returns how many bytes it has. One that is too long is cut, and then refused. */
+/* Receives an upload, and returns how many bytes it has. One that is too long is cut, and then refused. */
 static size_t receive(const char *path)
 {
     FILE *upload = fopen(path, "rb");
@@ -53,6 +55,16 @@ static size_t receive(const char *path)
     size_t size = fread(file, 1, sizeof file, upload);
     fclose(upload);
     return size;
+}
+
+/* Reads an upload, which verifies it, and refuses maps beyond the quota: so no customer takes the frames of another. */
+static uint32_t read_upload(size_t size)
+{
+    uint32_t code;
+    code = bpf_host_read_object(file, size, "admit", strlen("admit"), sizeof request, &object, &refused);
+    if (code == 0 && bpf_host_object_pages(&object) > QUOTA)
+        code = BPF_HOST_NO_FRAMES;
+    return code;
 }
 
 /* Loads what was read for the spare tenant, with maps of its own, and frees the other one's program and maps. */
@@ -72,7 +84,7 @@ static uint32_t load_apart(struct bpf_host *host, uint32_t *tenant, uint32_t *pr
 /* Replaces the program that runs by an upload, whose maps keep their values if they are the same; if that is refused, it stays. */
 static void replace(struct bpf_host *host, size_t size, uint32_t *tenant, uint32_t *program)
 {
-    uint32_t code = bpf_host_read_object(file, size, "admit", strlen("admit"), 8, &object, &refused);
+    uint32_t code = read_upload(size);
     if (code == 0 && bpf_host_same_maps(&object, &running))
         code = bpf_host_replace(host, *tenant, &object, program, &refused);
     else if (code == 0)
@@ -80,7 +92,21 @@ static void replace(struct bpf_host *host, size_t size, uint32_t *tenant, uint32
     if (code == 0)
         running = object;
     else
-        print_refusal(code);
+        reject(code);
+}
+
+/* The status that a filter answers, which may be any number. */
+static unsigned status_of(uint64_t answer)
+{
+    return answer == 200 || answer == 403 || answer == 429 ? (unsigned)answer : 500;
+}
+
+/* Prints how many requests client 7 made, if the program has the map of examples/caps.c. */
+static void print_requests(struct bpf_host *host, uint32_t tenant)
+{
+    uint32_t window[2] = {0, 0}, map = bpf_host_map_named(&running, "windows");
+    if (bpf_host_lookup(host, tenant, map, 7, (uint8_t *)window, sizeof window) == 0)
+        printf("requests: %u\n", window[1]);
 }
 
 int main(int argc, char **argv)
@@ -90,25 +116,25 @@ int main(int argc, char **argv)
     struct bpf_host_options defaults = BPF_HOST_OPTIONS;
     struct bpf_host_run run = {0, 0};
     uint32_t code, tenant = 0, program = 0;
-    uint8_t window[8] = {0};
-    must(bpf_host_new(32, 2, &defaults, &host));                    /* 32 pages of 4 KiB, two tenants (customers) */
-    /* For each upload: reading verifies it (inputs have 8 bytes), loading makes its maps. */
-    code = bpf_host_read_object(file, size, "admit", strlen("admit"), 8, &object, &refused);
+    unsigned status;
+    if (bpf_host_version() != BPF_HOST_VERSION)
+        return 1;
+    must(bpf_host_new(BPF_HOST_ENOUGH_FRAMES(TENANTS * QUOTA), TENANTS, &defaults, &host));
+    code = read_upload(size);
     if (code == 0)
         code = bpf_host_load_object(&host, tenant, &object, share_pages, &program, &refused);
     if (code != 0)
-        return reject(code);                                        /* object.why has the line of C */
+        return reject(code);                             /* object.why has the line of C */
     running = object;
     for (int upload = 2;; upload++) {
-        code = bpf_host_run(&host, tenant, program, request, 8, &run, &refused); /* for each request */
-        uint64_t status = code == 0 ? run.ret : 503;                    /* a refused run didn't start */
-        printf("%llu\n", (unsigned long long)status);
+        code = bpf_host_run(&host, tenant, program, request, sizeof request, &run, &refused);
+        status = code == 0 ? status_of(run.ret) : 503;   /* a run that is refused didn't start */
+        printf("%u\n", status);
         if (upload >= argc)
             break;
         replace(&host, receive(argv[upload]), &tenant, &program);
     }
-    must(bpf_host_lookup(&host, tenant, 0, 7, window, 8));          /* copies element 7 of map 0: the client's window */
-    printf("requests: %u\n", window[4]);
+    print_requests(&host, tenant);
     bpf_host_free(&host);
     return 0;
 }

@@ -1,4 +1,4 @@
-/* A limiter of packets by their sender's number: a bucket of tokens, which fills by one a tick up to eight.
+/* A limiter of packets by their sender's number: a bucket of tokens, which fills by one a tick up to eight. Times of packets don't go back.
    Answers 1 where the packet passes, 0 where it is dropped, and 2 for a sender that has no bucket; map 1
    counts each answer. Map 0, buckets: 16:100. Map 1, counters: 8:3. */
 typedef unsigned int u32;

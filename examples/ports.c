@@ -1,4 +1,4 @@
-/* Lets the first LIMIT packets to each port pass, and drops the others: an array map of counters. */
+/* Lets the first LIMIT packets to each port below 1024 pass, and drops all others: an array map of counters. */
 #include "bpf_helpers.h"
 
 #define LIMIT 1

@@ -14,7 +14,7 @@ struct request {
     u32 minute; /* since 1970 */
     u16 method;
     u16 is_admin;
-    char path[20]; /* its first bytes, then zeros */
+    char path[20]; /* as the server resolves it, decoded and without `//`, `.` and `..`: its first bytes, then zeros */
 };
 
 /* A client's last minute, and how many requests it made in it. */
@@ -47,7 +47,7 @@ u64 answer(const struct request *request)
     struct window *window = bpf_map_lookup_elem(&windows, &client);
     if (!window)
         return FORBIDDEN;
-    if (window->minute != request->minute) {
+    if (window->minute < request->minute) {
         window->minute = request->minute;
         window->requests = 0;
     }

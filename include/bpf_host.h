@@ -15,8 +15,10 @@
  * WHAT A CALL RETURNS. BPF_HOST_DONE, which is 0, or a refusal; bpf_host_code_name returns its name. Each call lists its refusals without BPF_HOST_,
  * in the order in which they are tested; docs/HOST.md says when 31 to 45 are returned.
  *     a rule           1 to 25: the program breaks this rule of the verifier, at the slot `refused->slot`
- *     NO_FRAMES        more frames are needed than are available: `refused->need` and `refused->have`. Never if the host has 2 * P + 2 frames or
- *                      more, P being the pages of all its maps, and of the one that is to be made
+ *     NO_FRAMES        more frames are needed than are available: `refused->need` and `refused->have`. Never if the host has
+ *                      BPF_HOST_ENOUGH_FRAMES(P) or more, P being the pages of all its maps, and of those that are to be made: for
+ *                      bpf_host_load_object all of the object's (bpf_host_object_pages). Who uploads chooses maps, so refuse an object that takes
+ *                      more pages than its owner may have
  *     OUT_OF_MEMORY    no other refusal applies; but calls that verify a text (bpf_host_load, _verify, _load_object, _replace) return it before
  *                      11 to 25 if there is no memory for that, bpf_host_read_object before 103 and a rule, bpf_host_explain before WRONG_LENGTH,
  *                      bpf_host_lower and bpf_host_replace before what they list after it
@@ -89,6 +91,9 @@ enum {
     BPF_HOST_MAX_VALUE = 4096,
     BPF_HOST_MAX_CONTEXT = 256
 };
+
+/* How many frames a host needs so that no call is refused for lack of them, if all maps of all its tenants never take more pages than this. */
+#define BPF_HOST_ENOUGH_FRAMES(pages) (2 * (pages) + 2)
 
 /* A handle: {0} is closed. */
 struct bpf_host {
@@ -224,7 +229,8 @@ uint32_t bpf_host_new(uint32_t frames, uint32_t tenants, const struct bpf_host_o
 void bpf_host_free(struct bpf_host *host) BPF_HOST_NONNULL;
 
 /* Makes a map of `entries` values of `value_size` bytes, all zero, and writes its number to `*map`: 0 to 7. If it is `mergeable`, visits let its
- * pages share frames with equal pages of mergeable maps, of other tenants too: then who chooses contents can make visits slow (docs/MERGING.md).
+ * pages share frames with equal pages of mergeable maps, of other tenants too: then who chooses contents can make visits slow (docs/MERGING.md),
+ * and may learn from the time that a store takes that another tenant has an equal page.
  * Refused: CLOSED, BAD_TENANT, BUSY, TOO_MANY_MAPS, BAD_SHAPE, NO_FRAMES. */
 uint32_t bpf_host_create_map(struct bpf_host *host, uint32_t tenant, uint32_t value_size, uint32_t entries, bool mergeable, uint32_t *map,
                              struct bpf_host_refused *refused) BPF_HOST_NONNULL;
@@ -255,9 +261,9 @@ uint32_t bpf_host_run(struct bpf_host *host, uint32_t tenant, uint32_t program, 
 uint32_t bpf_host_run_many(struct bpf_host *host, uint32_t tenant, uint32_t program, const uint8_t *contexts, size_t contexts_len, uint64_t *rets,
                            size_t rets_len, size_t *made, struct bpf_host_refused *refused) BPF_HOST_NONNULL;
 
-/* Opens a run of a program on a context, and reserves the frames that it may need. It ends only by bpf_host_step, within 4096 steps, or with its
- * host: until then the tenant's other calls but bpf_host_lookup and bpf_host_shape are BUSY. Refused: CLOSED, BAD_TENANT, BUSY, NO_PROGRAM,
- * BAD_CONTEXT, NO_FRAMES, OUT_OF_MEMORY. */
+/* Opens a run of a program on a context, which is copied, and reserves the frames that it may need. It ends only by bpf_host_step, within 4096 steps,
+ * or with its host: until then the tenant's calls that list BUSY are refused, with BUSY if nothing that they list before it applies. Refused: CLOSED,
+ * BAD_TENANT, BUSY, NO_PROGRAM, BAD_CONTEXT, NO_FRAMES, OUT_OF_MEMORY. */
 uint32_t bpf_host_begin(struct bpf_host *host, uint32_t tenant, uint32_t program, const uint8_t *context, size_t context_len,
                         struct bpf_host_refused *refused) BPF_HOST_NONNULL;
 
@@ -274,7 +280,7 @@ uint32_t bpf_host_update(struct bpf_host *host, uint32_t tenant, uint32_t map, u
                          struct bpf_host_refused *refused) BPF_HOST_NONNULL;
 
 /* Lets the scanner make `visits` visits, of one page each, and then writes the counters. Pages share frames by visits alone, so call it from time to
- * time if maps are mergeable. Unless the option `run` is 1, as at first, no page is visited. Refused: CLOSED. */
+ * time if maps are mergeable. Unless the option `run` is 1, as in BPF_HOST_OPTIONS, no page is visited. Refused: CLOSED. */
 uint32_t bpf_host_visit(struct bpf_host *host, uint32_t visits, struct bpf_host_counters *after) BPF_HOST_NONNULL;
 
 /* Sets an option. Refused: CLOSED, BAD_OPTION, PAGES_SHARED. */
@@ -318,7 +324,7 @@ uint32_t bpf_host_read_object(const uint8_t *file, size_t file_len, const char *
                               struct bpf_host_object *object, struct bpf_host_refused *refused) BPF_HOST_NONNULL;
 
 /* Makes the maps of an object that was read, by number and with their initial values, and loads its program, for a tenant that has no map, since a
- * text refers to maps by number. bpf_host_load loads a further program of the same file, from the text that is read under its name: its maps
+ * text refers to maps by number: it may have programs. The text is verified again. bpf_host_load loads a further program of the same file, from the text that is read under its name: its maps
  * have the same numbers. If making a map or loading the program is refused, the tenant's maps are dropped, except one to which an older program
  * refers, even in an instruction that is never reached. Refused: CLOSED, WRONG_LENGTH if a length exceeds its array, HAS_MAPS, and what
  * bpf_host_create_map, bpf_host_update and bpf_host_load refuse. */
@@ -334,8 +340,20 @@ static inline uint32_t bpf_host_map_named(const struct bpf_host_object *object, 
     return object->maps_len;
 }
 
+/* How many pages of 4096 bytes the maps of an object that was read take. */
+static inline uint64_t bpf_host_object_pages(const struct bpf_host_object *object)
+{
+    uint64_t pages = 0;
+    for (uint32_t number = 0; number < object->maps_len && number < BPF_HOST_MAX_MAPS; number++) {
+        uint64_t stride = (object->maps[number].shape.value_size + 7ull) / 8 * 8;
+        pages += (stride * object->maps[number].shape.entries + 4095) / 4096;
+    }
+    return pages;
+}
+
 /* Whether two objects that were read have the same maps by number: names, of C and dots and of less than 63 bytes, so that none was cut or escaped,
- * shapes and initial values. Then bpf_host_replace can put one in place of the other. Their context sizes may differ. */
+ * shapes and initial values. Then bpf_host_replace can put one in place of the other. Their context sizes may differ, and what the bytes of a value
+ * mean isn't compared: members of a struct that change places are seen by nobody. */
 static inline bool bpf_host_same_maps(const struct bpf_host_object *one, const struct bpf_host_object *other)
 {
     static const char plain[] = "ABCDEFGHIJKLMNOPQRSTUVWXYZabcdefghijklmnopqrstuvwxyz0123456789_.";

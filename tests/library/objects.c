@@ -221,6 +221,41 @@ static void test_map_named(void)
     CHECK(bpf_host_map_named(&object, "none"), 9);
 }
 
+/* The pages of an object's maps: those whose host has just so many frames for them, besides one for zeros, take them all, and not one fewer
+ * (docs/MEMORY.md: a value takes a multiple of 8 bytes, a map's last page is whole). */
+static void test_object_pages(void)
+{
+    static const struct { struct bpf_host_shape shape; uint64_t pages; } ROWS[] = {
+        {{1, 1}, 1},      {{8, 512}, 1},     {{8, 513}, 2},   {{4, 512}, 1},      {{4, 1024}, 2},
+        {{24, 200}, 2},   {{1, 65536}, 128}, {{9, 256}, 1},   {{9, 257}, 2},      {{4095, 1}, 1},
+        {{4096, 1}, 1},   {{4096, 256}, 256}, {{16, 65536}, 256}, {{4089, 3}, 3},
+    };
+    CHECK(read_object(read_file("crates/bpf_object/data/globals.o"), "", 0), 0);
+    for (size_t row = 0; row < sizeof ROWS / sizeof *ROWS; row++) {
+        struct bpf_host host = {0};
+        struct bpf_host_refused refused = {0, 0, 0};
+        uint32_t map = 0;
+        object.maps_len = 1;
+        object.maps[0].shape = ROWS[row].shape;
+        CHECK(bpf_host_object_pages(&object), ROWS[row].pages);
+        open_host(&host, (uint32_t)ROWS[row].pages + 1, 1);
+        CHECK(bpf_host_create_map(&host, 0, ROWS[row].shape.value_size, ROWS[row].shape.entries, true, &map, &refused), 0);
+        CHECK(bpf_host_create_map(&host, 0, 1, 1, true, &map, &refused), BPF_HOST_NO_FRAMES);
+        bpf_host_free(&host);
+    }
+    object.maps_len = 2;
+    object.maps[0].shape = (struct bpf_host_shape){4, 1024};
+    object.maps[1].shape = (struct bpf_host_shape){8, 513};
+    CHECK(bpf_host_object_pages(&object), 4);
+    object.maps_len = 0;
+    CHECK(bpf_host_object_pages(&object), 0);
+    object.maps_len = 9;
+    for (uint32_t map = 0; map < 8; map++)
+        object.maps[map].shape = (struct bpf_host_shape){8, 1};
+    CHECK(bpf_host_object_pages(&object), 8);
+    CHECK(BPF_HOST_ENOUGH_FRAMES(4), 10);
+}
+
 /* A program that replaces another one goes on with the values of its maps. What is refused leaves the old one and its number. */
 static void test_replaced_program(void)
 {
@@ -261,6 +296,7 @@ static void test_replaced_program(void)
 void test_objects(void)
 {
     test_same_maps();
+    test_object_pages();
     test_map_named();
     test_replaced_program();
     test_refused_files();
