@@ -1,5 +1,8 @@
 /* What programs in libbpf's style need of its header <bpf/bpf_helpers.h>: sections, maps, helpers. For another target than BPF the helpers
    are functions, which who links the program has. */
+#ifndef BPF_HELPERS_H
+#define BPF_HELPERS_H
+
 typedef unsigned char u8;
 typedef unsigned short u16;
 typedef unsigned int u32;
@@ -40,3 +43,5 @@ struct bpf_map_def {
     u32 max_entries;
     u32 map_flags;
 };
+
+#endif

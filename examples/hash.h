@@ -7,7 +7,13 @@
  *     struct flow *flow = flows_find_or_add(key);     a new value has zeros; null where the eight slots have other keys
  *     flows_remove(key);
  *
- * Include bpf_helpers.h before it. The host sees a slot by bpf_host_lookup, which takes its number: u64 key, u64 state (1 where it is taken), value. */
+ * Include bpf_helpers.h before it. The host sees a slot by bpf_host_lookup, which takes its number: u64 key, u64 state (1 where it is taken), value.
+ *
+ * The hash has no secret, so whoever chooses keys can choose nine whose hashes name the same eight slots. The ninth finds no room; the others stay.
+ * So where a stranger chooses the keys, answer what is safe when `find_or_add` returns null. */
+#ifndef HASH_H
+#define HASH_H
+
 #define HASH_PROBES 8
 
 /* Each probe has instructions of its own, since no jump leads back. */
@@ -19,14 +25,15 @@
 
 enum hash_state { HASH_FREE, HASH_TAKEN, HASH_REMOVED };
 
-/* The multiplier is 2^64 by the golden ratio (Knuth, The Art of Computer Programming, 6.4). */
+/* The multiplier is 2^64 by the golden ratio (Knuth, The Art of Computer Programming, 6.4). A table of 2^n slots takes bits 32 to 31 + n of the
+ * product, on which no higher bit of a factor has an effect, so the upper half of the key is first folded into the lower one. */
 static __always_inline u32 hash_of(u64 key)
 {
-    return (key * 0x9e3779b97f4a7c15ull) >> 32;
+    return ((key ^ key >> 32) * 0x9e3779b97f4a7c15ull) >> 32;
 }
 
 #define HASH_TABLE(name, value_type, slots) \
-    _Static_assert(((slots) & ((slots) - 1)) == 0, "a hash table has a power of two of slots"); \
+    _Static_assert((slots) > 0 && ((slots) & ((slots) - 1)) == 0, "a hash table has a power of two of slots"); \
     struct name##_slot { \
         u64 key; \
         u64 state; \
@@ -85,3 +92,5 @@ static __always_inline u32 hash_of(u64 key)
         if (slot) \
             slot->state = HASH_REMOVED; \
     }
+
+#endif
