@@ -3,6 +3,7 @@
 use crate::ffi;
 use crate::map::Shape;
 use crate::refused::Refused;
+use std::alloc::{alloc_zeroed, handle_alloc_error, Layout};
 use std::fmt;
 
 /// A program of an object file, which the verifier accepts for the maps that the file has.
@@ -38,7 +39,8 @@ pub struct ObjectRefused {
 }
 
 impl Object {
-    /// Reads an object file of at most 16 MiB. The name is that of a function, or of its section; if there is one function, it may be empty.
+    /// Reads an object file of at most 16 MiB. The name is that of a function, or of its section; if there is one function, it may be empty. A stack of
+    /// 128 KiB is enough for a thread that reads files (the library takes at most 96 in tests).
     ///
     /// # Panics
     /// If the library has another version than this crate.
@@ -52,19 +54,7 @@ impl Object {
     /// ```
     pub fn read(file: &[u8], name: &str, context_size: u32) -> Result<Object, ObjectRefused> {
         ffi::check_version();
-        let mut read = Box::new(ffi::Object {
-            context_size: 0,
-            text_len: 0,
-            maps_len: 0,
-            text: [0; 32768],
-            maps: [ffi::ObjectMap {
-                shape: ffi::Shape::default(),
-                first_len: 0,
-                name: [0; 64],
-                first: [0; 4096],
-            }; 8],
-            why: [0; 1024],
-        });
+        let mut read = zeroed();
         let mut refused = ffi::Refused::default();
         // SAFETY: the file and the name are slices of their lengths; they and what is written outlive the call.
         let code = unsafe {
@@ -119,6 +109,19 @@ impl fmt::Display for ObjectRefused {
 }
 
 impl std::error::Error for ObjectRefused {}
+
+/// An object of zeros for the library to write. `Box::new` may build its 67180 bytes on the stack first.
+fn zeroed() -> Box<ffi::Object> {
+    let layout = Layout::new::<ffi::Object>();
+    // SAFETY: the layout isn't of size 0.
+    let at = unsafe { alloc_zeroed(layout) }.cast::<ffi::Object>();
+    if at.is_null() {
+        handle_alloc_error(layout);
+    }
+    // SAFETY: the global allocator, which is also a `Box`'s, gave the block just now, for this layout, and nothing else points to it. All members are
+    // numbers and arrays of numbers, so zeros are an object.
+    unsafe { Box::from_raw(at) }
+}
 
 /// The text up to the first zero.
 fn text_of(bytes: &[u8]) -> String {

@@ -398,6 +398,15 @@ fn an_object_file_is_loaded_with_its_maps() {
     );
 }
 
+/// What is read doesn't pass over the stack, of which the library may take 96 KiB.
+#[test]
+fn an_object_is_read_on_a_small_stack() {
+    let globals = file("globals.o");
+    let reads = move || Object::read(&globals, "", 0).unwrap().maps.len();
+    let small = std::thread::Builder::new().stack_size(128 << 10);
+    assert_eq!(small.spawn(reads).unwrap().join().unwrap(), 3);
+}
+
 #[test]
 fn a_program_is_replaced_on_its_maps() {
     let object = Object::read(&file("globals.o"), "", 0).unwrap();
