@@ -25,7 +25,7 @@
 //! let host = Host::new(32, 1, Options::default())?;
 //! let mut program = host.tenant(0).load_object(&first, false)?;
 //! let next = Object::read(&std::fs::read("caps_2.o")?, "admit", 8)?;
-//! if next.maps == first.maps {
+//! if next.has_same_maps(&first) {
 //!     program = match program.replace(&next) {
 //!         Ok(replaced) => replaced,
 //!         Err(returned) => {
@@ -35,6 +35,8 @@
 //!     };
 //! }
 //! let status = program.run(&[7, 0, 0, 0, 0, 0, 0, 0])?.ret;
+//! let windows = first.map_named("windows").ok_or("the file has no map `windows`")?;
+//! let window = host.tenant(0).map(windows)?.get(7)?;
 //! # Ok::<(), Box<dyn std::error::Error>>(())
 //! ```
 //!

@@ -6,7 +6,13 @@ use crate::refused::Refused;
 use std::alloc::{alloc_zeroed, handle_alloc_error, Layout};
 use std::fmt;
 
+/// The most bytes of a name that wasn't cut: one that was has 63 left.
+const LONGEST_WHOLE_NAME: usize = 62;
+
 /// A program of an object file, which the verifier accepts for the maps that the file has.
+///
+/// Before [`Program::replace`](crate::Program::replace) don't compare `maps` by `==`, which takes names that may have been cut for the same:
+/// [`Object::has_same_maps`] doesn't.
 #[derive(Clone, Debug, PartialEq, Eq)]
 pub struct Object {
     /// The size of the contexts on which it runs.
@@ -39,8 +45,8 @@ pub struct ObjectRefused {
 }
 
 impl Object {
-    /// Reads an object file of at most 16 MiB. The name is that of a function, or of its section; if there is one function, it may be empty. A stack of
-    /// 128 KiB is enough for a thread that reads files (the library takes at most 96 in tests).
+    /// Reads an object file of at most 16 MiB. The name is that of a function, or of its section; if there is one function, it may be empty. A thread
+    /// that reads files needs a stack of 128 KiB: the library takes at most 96 in tests.
     ///
     /// # Panics
     /// If the library has another version than this crate.
@@ -77,6 +83,20 @@ impl Object {
         }
     }
 
+    /// Whether two objects that were read have the same maps by number: names, of C and dots and of less than 63 bytes, so that none was cut or
+    /// escaped, shapes and initial values. Then [`Program::replace`](crate::Program::replace) can put one in place of the other. Their context sizes
+    /// may differ.
+    pub fn has_same_maps(&self, other: &Object) -> bool {
+        self.maps == other.maps && self.maps.iter().all(ObjectMap::has_whole_name)
+    }
+
+    /// The number of the map that was read with a name, by which [`Tenant::map`](crate::Tenant::map) finds it once the object is loaded. It is
+    /// [`ObjectMap::name`], which of a long name is a part.
+    pub fn map_named(&self, name: &str) -> Option<u32> {
+        let mut numbered = (0..).zip(&self.maps);
+        numbered.find_map(|(number, map)| (map.name == name).then_some(number))
+    }
+
     fn of(read: &ffi::Object) -> Object {
         Object {
             context_size: read.context_size,
@@ -90,6 +110,12 @@ impl Object {
 }
 
 impl ObjectMap {
+    /// Whether the name is surely the one in the file: neither cut nor escaped.
+    fn has_whole_name(&self) -> bool {
+        let is_plain = |byte: u8| byte.is_ascii_alphanumeric() || byte == b'_' || byte == b'.';
+        self.name.len() <= LONGEST_WHOLE_NAME && self.name.bytes().all(is_plain)
+    }
+
     fn of(map: &ffi::ObjectMap) -> ObjectMap {
         ObjectMap {
             name: text_of(&map.name),

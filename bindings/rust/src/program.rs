@@ -108,8 +108,8 @@ impl<'h> Program<'h> {
         Refused::check(code, refused)
     }
 
-    /// Puts a new version in place of the program, on the same maps, whose values stay: an object whose `maps` equal those of the program's object,
-    /// which isn't checked. It is loaded beside the program, which is then unloaded, so the tenant has at most seven programs before.
+    /// Puts a new version in place of the program, on the same maps, whose values stay: an object that [has the same maps](Object::has_same_maps) as
+    /// the program's, which isn't checked. It is loaded beside the program, which is then unloaded, so the tenant has at most seven programs before.
     ///
     /// # Errors
     /// What [`Tenant::load`] refuses, and `NoProgram` after it was unloaded. Then the tenant's programs are as they were, and `self` comes back.

@@ -1,7 +1,7 @@
 //! What a program in Rust sees of a host: values, refusals and counters of docs/HOST.md and docs/MERGING.md.
 
 use bpf_host::{code, explain, lower, verify};
-use bpf_host::{Frames, Host, Object, Options, Refused, Run, Setting, Shape};
+use bpf_host::{Frames, Host, Object, ObjectMap, Options, Refused, Run, Setting, Shape};
 
 /// r0 = 42, exit.
 const ANSWER: &str = "b70000002a0000009500000000000000";
@@ -390,12 +390,72 @@ fn an_object_file_is_loaded_with_its_maps() {
     let program = host.tenant(0).load_object(&object, true).unwrap();
     let (ret, steps) = (134_678_021, 6);
     assert_eq!(program.run(&[]), Ok(Run { ret, steps }));
-    let first = host.tenant(0).map(1).unwrap().get(0);
+    let constants = object.map_named(".rodata").unwrap();
+    let first = host.tenant(0).map(constants).unwrap().get(0);
     assert_eq!(first.as_ref(), Ok(&object.maps[1].first));
     assert_eq!(
         refusal(host.tenant(0).load_object(&object, true)),
         "HasMaps"
     );
+}
+
+#[test]
+fn a_map_of_an_object_is_found_by_its_name() {
+    let object = Object::read(&file("globals.o"), "", 0).unwrap();
+    let names = [".data", ".rodata", ".bss", ".dat", ".data.", ""];
+    let numbers = names.map(|name| object.map_named(name));
+    assert_eq!(numbers, [Some(0), Some(1), Some(2), None, None, None]);
+    let mut twice = object;
+    twice.maps[2].name = ".rodata".to_owned();
+    assert_eq!(twice.map_named(".rodata"), Some(1));
+}
+
+/// A copy of an object in which one map of three is another.
+fn with_map(object: &Object, number: usize, change: impl Fn(&mut ObjectMap)) -> Object {
+    let mut changed = object.clone();
+    change(&mut changed.maps[number]);
+    changed
+}
+
+/// The cases of tests/library/objects.c.
+#[test]
+fn objects_have_the_same_maps_or_others() {
+    let object = Object::read(&file("globals.o"), "", 0).unwrap();
+    let mut next = object.clone();
+    (next.text, next.context_size) = (Vec::new(), 8);
+    assert!(object.has_same_maps(&next));
+    let others = [
+        with_map(&object, 2, |map| map.name.push('s')),
+        with_map(&object, 2, |map| map.shape.value_size += 1),
+        with_map(&object, 2, |map| map.shape.entries += 1),
+        with_map(&object, 1, |map| *map.first.last_mut().unwrap() += 1),
+        with_map(&object, 1, |map| map.first.truncate(1)),
+        Object {
+            maps: object.maps[..2].to_vec(),
+            ..object.clone()
+        },
+    ];
+    for other in others {
+        assert!(!object.has_same_maps(&other), "{:?}", other.maps);
+        assert!(!other.has_same_maps(&object), "{:?}", other.maps);
+    }
+}
+
+/// Two maps whose names were cut to the same bytes, or escaped to the same, may be different ones.
+#[test]
+fn a_map_without_its_whole_name_is_nobodys() {
+    let object = Object::read(&file("globals.o"), "", 0).unwrap();
+    let named = |name: &str| with_map(&object, 0, |map| map.name = name.to_owned());
+    for (name, is_whole) in [
+        (&*"n".repeat(62), true),
+        (&"n".repeat(63), false),
+        (".data.v_2", true),
+        (".data-2", false),
+        ("\\u{e9}", false),
+        ("dat\u{e9}", false),
+    ] {
+        assert_eq!(named(name).has_same_maps(&named(name)), is_whole, "{name}");
+    }
 }
 
 /// What is read doesn't pass over the stack, of which the library may take 96 KiB.
@@ -412,11 +472,15 @@ fn a_program_is_replaced_on_its_maps() {
     let object = Object::read(&file("globals.o"), "", 0).unwrap();
     let host = host(8, 1);
     let first = host.tenant(0).load_object(&object, true).unwrap();
+    let data = object.map_named(".data").unwrap();
+    let data = host.tenant(0).map(data).unwrap();
     let kept = [9, 8, 7, 6, 5, 4, 3, 2];
-    host.tenant(0).map(0).unwrap().update(0, &kept).unwrap();
+    data.update(0, &kept).unwrap();
+    let again = Object::read(&file("globals.o"), "", 0).unwrap();
+    assert!(again.has_same_maps(&object));
     // A tenant has at most eight programs, so each of the older ones was unloaded.
-    let next = (0..20).fold(first, |program, _| program.replace(&object).unwrap());
-    assert_eq!(host.tenant(0).map(0).unwrap().get(0), Ok(kept.to_vec()));
+    let next = (0..20).fold(first, |program, _| program.replace(&again).unwrap());
+    assert_eq!(data.get(0), Ok(kept.to_vec()));
     let cut = Object {
         text: vec![0; 7],
         ..object
