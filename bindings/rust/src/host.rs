@@ -106,8 +106,8 @@ pub struct Host {
     handle: UnsafeCell<ffi::Handle>,
 }
 
-// SAFETY: the library proves of its handle that it may go to another thread (`handles_cross` of crates/host_handle). What hands a `Host` over orders the
-// calls before and after, as the header asks, and a `Host` moves only while nothing borrows it.
+// SAFETY: the library proves of its handle that it may go to another thread (`handles_cross` of crates/host_handle). What hands a `Host` over orders
+// the calls before and after, as the header asks, and a `Host` moves only while nothing borrows it.
 unsafe impl Send for Host {}
 
 impl Host {

@@ -26,7 +26,8 @@ pub struct Object {
 /// A map of an object file, one that it defines or that its global variables are in.
 #[derive(Clone, Debug, PartialEq, Eq)]
 pub struct ObjectMap {
-    /// Its name, at most 63 bytes of it. One with other characters than a name of C and dots is escaped and cut.
+    /// Its name, at most 63 bytes of it. One with other characters than a name of C and dots is cut after 40 and escaped for a terminal, not for
+    /// HTML.
     pub name: String,
     /// Its shape.
     pub shape: Shape,
@@ -40,7 +41,8 @@ pub struct ObjectMap {
 pub struct ObjectRefused {
     /// The refusal. The slot is that of the text before it was lowered.
     pub refused: Refused,
-    /// What the program `bpf_object` says, with the line of C.
+    /// What the program `bpf_object` says, with the line of C: at most 1023 bytes. Who uploads the file chooses names and lines in it; they are
+    /// escaped for a terminal, not for HTML.
     pub why: String,
 }
 

@@ -18,7 +18,7 @@ pub struct Program<'h> {
 /// What a run returned.
 #[derive(Clone, Copy, Debug, PartialEq, Eq)]
 pub struct Run {
-    /// R0 at its end.
+    /// R0 at its end: of a C function that returns `int` only the lower 32 bits are the number, `ret as i32`.
     pub ret: u64,
     /// How many instructions it executed.
     pub steps: u32,
@@ -63,7 +63,7 @@ impl<'h> Program<'h> {
     }
 
     /// Runs the program once for each member of `rets`, on contexts of one size of which one stands after the other, and writes what each run
-    /// returns.
+    /// returns, as [`Run::ret`].
     ///
     /// # Errors
     /// `WrongLength` if the contexts can't have one size, and what `run` refuses. It stops at the first refusal, whose member `made` is how many runs

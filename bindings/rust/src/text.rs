@@ -83,8 +83,11 @@ pub fn lower(text: &[u8], shapes: &[Option<Shape>], context_size: u32) -> Result
     Ok(lowered)
 }
 
-/// What the program `explain` prints of a text: the line of its verdict, and its instructions with what the verifier knows at each. If memory runs out,
-/// it may say so in place of them.
+/// What the program `explain` prints of a text: the line of its verdict, and its instructions with what the verifier knows at each. If memory runs
+/// out, it may say so in place of them.
+///
+/// # Panics
+/// As [`verify`].
 ///
 /// # Errors
 /// `OutOfMemory`.
