@@ -80,7 +80,7 @@ extern "C" {
 #define BPF_HOST_NONNULL
 #endif
 
-/* The version of this header. The library has the same version if bpf_host_version returns this number. */
+/* The version of this header: N of a package 0.N.0 (tools/package). The library has the same version if bpf_host_version returns this number. */
 #define BPF_HOST_VERSION 5
 
 /* The limits of a tenant and of what it is given: see above. */

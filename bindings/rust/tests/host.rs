@@ -204,10 +204,14 @@ fn a_map_in_use_comes_back() {
     returned.value.remove().unwrap();
 }
 
+fn header() -> String {
+    let path = concat!(env!("CARGO_MANIFEST_DIR"), "/../../include/bpf_host.h");
+    std::fs::read_to_string(path).unwrap()
+}
+
 /// The names and numbers of the header's refusals, NO_FRAMES as NoFrames.
 fn refusals_of_header() -> Vec<(u32, String)> {
-    let path = concat!(env!("CARGO_MANIFEST_DIR"), "/../../include/bpf_host.h");
-    let header = std::fs::read_to_string(path).unwrap();
+    let header = header();
     let (_, codes) = header.split_once("BPF_HOST_DONE = 0,").unwrap();
     let (codes, _) = codes.split_once('}').unwrap();
     let lines = codes.split(',').map(str::trim);
@@ -231,6 +235,14 @@ fn refusals_have_the_names_of_the_header() {
         other.code = number;
         assert_eq!(other.name(), name);
     }
+}
+
+#[test]
+fn the_crate_has_the_version_of_the_header() {
+    let header = header();
+    let (_, version) = header.split_once("#define BPF_HOST_VERSION ").unwrap();
+    let number = version.lines().next().unwrap();
+    assert_eq!(env!("CARGO_PKG_VERSION"), format!("0.{number}.0"));
 }
 
 /// A host of two tenants, each with one page of the same bytes that aren't zero.
