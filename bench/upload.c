@@ -10,7 +10,7 @@
 #include <malloc.h>
 #include <string.h>
 
-enum { SLOTS = 4096, RUNS = 100, CONTEXT = 256, CUSTOMERS = 1000, TENANTS = 16, SPARE = 1, PAGE = 4096 };
+enum { SLOTS = 4096, RUNS = 100, CONTEXT = 256, CUSTOMERS = 1000, TENANTS = 16, SPARE = 1 };
 
 static const uint32_t HOSTS[][2] = {{2, 1}, {32, 2}, {64, 16}, {1024, 16}, {4096, 16}};
 
@@ -87,27 +87,19 @@ static uint32_t measure(struct bpf_host *host, int rounds, size_t size, const ch
     return code;
 }
 
-/* How many pages the maps of the object have. */
-static uint32_t pages(void)
-{
-    uint32_t found = 0;
-    for (uint32_t map = 0; map < object.maps_len; map++)
-        found += (object.maps[map].shape.value_size * object.maps[map].shape.entries + PAGE - 1) / PAGE;
-    return found;
-}
-
 /* What 1,000 customers hold who each loaded the object: hosts of 16 tenants, one of which is spare, with two frames for each page of each
  * tenant's maps and two more, so that no call is refused for lack of them. */
 static uint32_t customers(void)
 {
     static struct bpf_host each[CUSTOMERS / (TENANTS - SPARE) + 1];
     struct bpf_host_options options = BPF_HOST_OPTIONS;
+    uint32_t frames = (uint32_t)BPF_HOST_ENOUGH_FRAMES(TENANTS * bpf_host_object_pages(&object));
     uint32_t program, code = 0, hosts = 0;
     size_t before = held();
     for (uint32_t customer = 0; customer < CUSTOMERS; customer++) {
         uint32_t tenant = customer % (TENANTS - SPARE);
         if (tenant == 0)
-            code |= bpf_host_new(2 * TENANTS * pages() + 2, TENANTS, &options, &each[hosts++]);
+            code |= bpf_host_new(frames, TENANTS, &options, &each[hosts++]);
         code |= bpf_host_load_object(&each[hosts - 1], tenant, &object, false, &program, &refused);
     }
     printf("%u customers in %u hosts hold %zu MiB\n", CUSTOMERS, hosts, (held() - before) >> 20);
