@@ -87,7 +87,7 @@ impl Object {
 
     /// Whether two objects that were read have the same maps by number: names, of C and dots and of less than 63 bytes, so that none was cut or
     /// escaped, shapes and initial values. Then [`Program::replace`](crate::Program::replace) can put one in place of the other. Their context sizes
-    /// may differ.
+    /// may differ, and what the bytes of a value mean isn't compared: members of a struct that change places are seen by nobody.
     pub fn has_same_maps(&self, other: &Object) -> bool {
         self.maps == other.maps && self.maps.iter().all(ObjectMap::has_whole_name)
     }
