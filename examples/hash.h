@@ -7,7 +7,8 @@
  *     struct flow *flow = flows_find_or_add(key);     a new value has zeros; null where the eight slots have other keys
  *     flows_remove(key);
  *
- * Include bpf_helpers.h before it. The host sees a slot by bpf_host_lookup, which takes its number: u64 key, u64 state (1 where it is taken), value.
+ * Include bpf_helpers.h before it. The host sees a slot by bpf_host_lookup, which takes its number: u64 key, u64 state (1 where it is taken), and the
+ * value.
  *
  * The hash has no secret, so whoever chooses keys can choose nine whose hashes name the same eight slots. The ninth finds no room; the others stay.
  * So where a stranger chooses the keys, answer what is safe when `find_or_add` returns null. */

@@ -323,11 +323,11 @@ uint32_t bpf_host_explain(const uint8_t *text, size_t text_len, const struct bpf
 uint32_t bpf_host_read_object(const uint8_t *file, size_t file_len, const char *name, size_t name_len, uint32_t context_size,
                               struct bpf_host_object *object, struct bpf_host_refused *refused) BPF_HOST_NONNULL;
 
-/* Makes the maps of an object that was read, by number and with their initial values, and loads its program, for a tenant that has no map, since a
- * text refers to maps by number: it may have programs. The text is verified again. bpf_host_load loads a further program of the same file, from the text that is read under its name: its maps
- * have the same numbers. If making a map or loading the program is refused, the tenant's maps are dropped, except one to which an older program
- * refers, even in an instruction that is never reached. Refused: CLOSED, WRONG_LENGTH if a length exceeds its array, HAS_MAPS, and what
- * bpf_host_create_map, bpf_host_update and bpf_host_load refuse. */
+/* Makes the maps of an object that was read, by number and with their initial values, and loads its program, which is verified again: for a tenant
+ * that has no map, since a text refers to maps by number; it may have programs. bpf_host_load loads a further program of the same file, from the text
+ * that is read under its name: its maps have the same numbers. If making a map or loading the program is refused, the tenant's maps are dropped,
+ * except one to which an older program refers, even in an instruction that is never reached. Refused: CLOSED, WRONG_LENGTH if a length exceeds its
+ * array, HAS_MAPS, and what bpf_host_create_map, bpf_host_update and bpf_host_load refuse. */
 uint32_t bpf_host_load_object(struct bpf_host *host, uint32_t tenant, const struct bpf_host_object *object, bool mergeable, uint32_t *program,
                               struct bpf_host_refused *refused) BPF_HOST_NONNULL;
 
