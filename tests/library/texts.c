@@ -125,6 +125,20 @@ static void test_explained_texts(void)
     check_explained(RETURN_42, 0, 102, wanted);
 }
 
+/* A text of more than 4096 slots is refused for its length, by the same words however long it is. */
+static void check_explained_alike(size_t len, size_t longer_len)
+{
+    static const uint8_t text[8 * 40000 + 3];
+    char words[4096];
+    char longer_words[4096];
+    size_t written = 0;
+    size_t longer_written = 0;
+    CHECK(bpf_host_explain(text, len, NO_SHAPES, 0, 0, words, sizeof words, &written), 0);
+    CHECK(bpf_host_explain(text, longer_len, NO_SHAPES, 0, 0, longer_words, sizeof longer_words, &longer_written), 0);
+    CHECK(strncmp(words, "refused 1 BadLength at 0\n", strlen("refused 1 BadLength at 0\n")), 0);
+    CHECK(longer_written == written && memcmp(longer_words, words, written) == 0, true);
+}
+
 void test_texts(void)
 {
     test_verdicts();
@@ -133,4 +147,6 @@ void test_texts(void)
     check_not_lowered(SECOND_WORD, 8, 16, 0);
     check_not_lowered(RETURN_42, 4, 39, 77);
     test_explained_texts();
+    check_explained_alike(8 * 4097, 8 * 40000);
+    check_explained_alike(8 * 4096 + 3, 8 * 40000 + 3);
 }

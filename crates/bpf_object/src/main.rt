@@ -12,6 +12,7 @@ mod fronts;
 mod runs;
 
 use answer::answer;
+use engines::write_line;
 use fault::{Fault, status_of, write_fault, written};
 use std::alloc::{AllocError, Global};
 use std::env;
@@ -75,7 +76,7 @@ where
         let line = line.map_err(Fault::Read)?;
         if line.as_str().starts_with('#') {
             // A title asks for nothing.
-            written(writeln!(output, "{line}"))?;
+            written(write_line(output, "", line.as_str()))?;
         } else {
             answer_line(rt, line.as_str(), output)?;
         }
@@ -91,7 +92,7 @@ where
     W: Write,
 {
     let alloc = rt.alloc();
-    written(writeln!(output, "$ {line}"))?;
+    written(write_line(output, "$ ", line))?;
     let words = words_of(alloc, line)?;
     let outcome = answer(rt, words.as_slice(), output);
     write_outcome(alloc, &outcome, output)

@@ -16,9 +16,6 @@ const TENANT: u32 = 0;
 /// Its only program.
 const PROGRAM: u32 = 0;
 
-/// The map of what a program can't write.
-const READ_ONLY: &str = ".rodata";
-
 /// A program that the verifier accepts.
 #[derive(Clone, Copy)]
 pub struct Accepted<'a> {
@@ -106,7 +103,7 @@ fn print_values<W: Write>(
     output: &mut W,
 ) -> Result<(), Fault> {
     for (number, map) in (0..MAX_MAPS as MapNo).zip(maps.iter()) {
-        if map.name.as_str() != READ_ONLY {
+        if !map.is_read_only {
             print_map(alloc, host, number, map, output)?;
         }
     }

@@ -43,6 +43,13 @@ fn is_unread(fault: &FileFault) -> bool {
     }
 }
 
+/// Writes a line of the input after a mark. A character of it that steers a terminal is written by its number.
+pub fn write_line<W: Write>(output: &mut W, mark: &str, line: &str) -> io::Result<()> {
+    output.write_all(mark.as_bytes())?;
+    write_plain(output, line)?;
+    writeln!(output)
+}
+
 /// Writes a text in which a character that steers a terminal is written by its number.
 fn write_plain<W: Write>(diagnostics: &mut W, text: &str) -> io::Result<()> {
     for c in text.chars() {

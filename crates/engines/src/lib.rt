@@ -15,7 +15,7 @@ mod watch;
 pub use arguments::words_from;
 pub use beginning::Beginning;
 pub use explanation::Known;
-pub use fault::{status_of, write_fault, written};
+pub use fault::{status_of, write_fault, write_line, written};
 pub use lines::{write_beginning_reply, write_reply};
 pub use replay::{file_from, refuse};
 pub use session::{explain_at, explain_beginning_at};

@@ -9,7 +9,7 @@ mod sources;
 mod view;
 
 use answer::answer;
-use engines::{status_of, words_from, write_fault, written};
+use engines::{status_of, words_from, write_fault, write_line, written};
 use host_file::FileFault;
 use listing::Paint;
 use program_source::words_of;
@@ -73,10 +73,10 @@ fn answer_line<R: AllocGlobal + Files, W: Write>(
 ) -> Result<u8, FileFault> {
     let alloc = rt.alloc();
     if line.starts_with('#') {
-        written(writeln!(output, "{line}"))?;
+        written(write_line(output, "", line))?;
         return Ok(0);
     }
-    written(writeln!(output, "$ {line}"))?;
+    written(write_line(output, "$ ", line))?;
     let words = words_of(alloc, "explain", line)?;
     answer(rt, words.as_slice(), paint, output)
 }

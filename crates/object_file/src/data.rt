@@ -76,10 +76,18 @@ fn add_alone(
 {
     let name = object.name(section)?;
     let map = if section.kind == NOBITS {
-        add_value(alloc, section.number, name, section.size, &[], maps)?
+        add_value(alloc, section.number, name, section.size, &[], false, maps)?
     } else {
         let contents = object.contents(section)?;
-        add_value(alloc, section.number, name, contents.len(), contents, maps)?
+        add_value(
+            alloc,
+            section.number,
+            name,
+            contents.len(),
+            contents,
+            false,
+            maps,
+        )?
     };
     maps.aim(section.number, Reach::Value(0), map)
 }
@@ -108,6 +116,7 @@ fn add_read_only(
         b".rodata",
         bytes.len(),
         bytes.as_slice(),
+        true,
         maps,
     )?;
     Ok(())
@@ -135,6 +144,7 @@ fn add_value(
     name: &[u8],
     size: usize,
     contents: &[u8],
+    is_read_only: bool,
     maps: &mut Maps,
 ) -> Result<u32, ObjectError>
     requires { (contents.now ≡ []) ⊎ (length contents.now ≡ size) }
@@ -147,7 +157,7 @@ fn add_value(
         value_size: size as u32,
         entries: 1,
     };
-    maps.add(alloc, section, name, shape, contents)
+    maps.add(alloc, section, name, shape, contents, is_read_only)
 }
 
 /// Refuses relocations of global variables.

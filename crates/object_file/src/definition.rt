@@ -118,7 +118,7 @@ fn add_map(
     };
     let definition = definition_of(alloc, section, symbol.value, btf, name, members)?;
     let shape = definition.shape(alloc, section, symbol.value, name)?;
-    let map = maps.add(alloc, section, name, shape, &[])?;
+    let map = maps.add(alloc, section, name, shape, &[], false)?;
     maps.aim(section, Reach::Definition(symbol.value), map)
 }
 

@@ -51,7 +51,7 @@ fn add_map(
         return Err(ObjectError::at(section, symbol.value, cause));
     };
     let shape = definition.shape(alloc, section, symbol.value, name)?;
-    let map = maps.add(alloc, section, name, shape, &[])?;
+    let map = maps.add(alloc, section, name, shape, &[], false)?;
     maps.aim(section, Reach::Definition(symbol.value), map)
 }
 

@@ -15,6 +15,8 @@ pub struct Map {
     pub name: String,
     pub shape: Shape,
     pub first: Vec<u8>,
+    /// Whether its value is the read-only data of the file. Its name doesn't say it: a map that the file defines may be named `.rodata` too.
+    pub is_read_only: bool,
 }
 
 /// What stands at an address of a section: a map, by its number, or bytes of its first value from `base` on.
@@ -59,6 +61,7 @@ impl Maps {
         name: &[u8],
         shape: Shape,
         first: &[u8],
+        is_read_only: bool,
     ) -> Result<u32, ObjectError>
         requires { (first.now ≡ []) ⊎ (length first.now ≡ shape.value_size) }
         ensures kept { AreShapedMaps self.old.maps.items → AreShapedMaps self.new.maps.items }
@@ -72,7 +75,12 @@ impl Maps {
         }
         let number = self.maps.len() as u32;
         let first = unless_zeros(alloc, first)?;
-        self.maps.push(Map { name, shape, first })?;
+        self.maps.push(Map {
+            name,
+            shape,
+            first,
+            is_read_only,
+        })?;
         Ok(number)
     }
 

@@ -19,7 +19,7 @@ pub(crate) const MOST_SECTIONS: usize = 1024;
 
 const MOST_SYMBOLS: usize = 65536;
 
-/// The most bytes of a text among names.
+/// The most bytes of a text among names, and of a name that is looked up, with the zero that ends it.
 const MOST_OF_FRONT: usize = 1024;
 
 /// The bytes of a section header, of a symbol and of a relocation.
@@ -322,8 +322,12 @@ impl Symbol {
     }
 }
 
-/// Whether just this name stands at an offset of names, with a zero after it. A name has no zero in it.
+/// Whether just this name stands at an offset of names, with a zero after it. A name has no zero in it. A caller may give one of
+/// megabytes, and it is compared with that of each symbol: so one of 1024 bytes or more is no name.
 fn has_name_at(names: &[u8], at: usize, name: &[u8]) -> bool {
+    if name.len() >= MOST_OF_FRONT {
+        return false;
+    }
     let Some(end) = at.checked_add(name.len()) else {
         return false;
     };

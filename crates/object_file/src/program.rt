@@ -18,8 +18,9 @@ use host_types::limits::MAX_TEXT;
 use object_error::{Cause, ObjectError};
 use std::alloc::Global;
 
-/// The most bytes of functions. Each call of one leads to an instruction that is none, and a program has at most 4096 slots when it calls no
-/// function any more: so a program with more is refused whatever its functions do.
+/// The most bytes of functions. A copy has all slots of its function but the last exit, and stands for one slot, its call: so at most 256 functions
+/// of more than 8192 slots have more than 4096 when no function is called any more, and are refused whatever they do. But nothing stands for a call
+/// of a function that only returns: a program with more than 3500 of these may be refused here alone, as README.md says.
 const MOST_OF_FUNCTIONS: usize = 2 * MAX_TEXT;
 
 /// A program for a host: the texts of a function and of those that it calls, the first of them the program's own, and the maps that

@@ -1,7 +1,7 @@
 //! A program whose words stand on its command line or, with none there, in lines of the standard input.
 
 use crate::line::words_of;
-use engines::{status_of, words_from, write_fault, written};
+use engines::{status_of, words_from, write_fault, write_line, written};
 use host_file::FileFault;
 use std::alloc::AllocError;
 use std::io::{self, BufWriter, Input, Write};
@@ -56,7 +56,7 @@ where
         let line = line.map_err(FileFault::Read)?;
         if line.as_str().starts_with('#') {
             // A title asks for nothing.
-            written(writeln!(output, "{line}"))?;
+            written(write_line(output, "", line.as_str()))?;
         } else {
             status = answer_line::<P, R, W>(rt, line.as_str(), output)?;
         }
@@ -73,7 +73,7 @@ where
     W: Write,
 {
     let alloc = rt.alloc();
-    written(writeln!(output, "$ {line}"))?;
+    written(write_line(output, "$ ", line))?;
     let words = words_of(alloc, P::name(), line)?;
     let mut said = Vec::new(alloc);
     let outcome = P::answer(rt, words.as_slice(), output, &mut said);

@@ -55,7 +55,7 @@ impl Report {
     }
 
     /// Writes the line of what the run was answered that the file's event of this number asks for, and what a refusal means.
-    /// The run has a number among those that its tenant began. The file's commands say what its program was loaded with.
+    /// The run has a number among those that its tenant began. `loaded` is the size of contexts that its program was loaded with.
     pub(crate) fn print_run<W: Write, E: Write>(
         &mut self,
         writer: &mut W,
@@ -64,7 +64,7 @@ impl Report {
         beginning: &Beginning<'_>,
         run: u64,
         reply: &Reply,
-        commands: &[Command],
+        loaded: Option<u32>,
     ) -> Result<(), FileFault>
         ensures refused { OnOk result (self.new.has_refused ≡ (self.old.has_refused || is_refusal reply.now)) }
         ensures written { OnOk result (Appends (W.contents writer.old) (W.contents writer.new) (reply_lines (begin_event beginning.now) run reply.now)) }
@@ -72,7 +72,6 @@ impl Report {
     {
         write_beginning_reply(writer, beginning, run, reply)?;
         if let Reply::Refused(fault) = reply {
-            let loaded = context_size_of(beginning.tenant, beginning.program, commands);
             explain_beginning_at(diagnostics, number, beginning, *fault, loaded);
             self.has_refused = true;
         }
@@ -149,28 +148,4 @@ fn shapes_for(
         }
     }
     Ok(shapes)
-}
-
-/// The size of contexts that a tenant's program was loaded with. No load of these commands was refused, so that each has
-/// the next number of its tenant's programs.
-fn context_size_of(tenant: u32, program: u32, commands: &[Command]) -> Option<u32> {
-    let mut number: u32 = 0;
-    for command in commands {
-        match command {
-            Command::Apply(
-                Event::Load {
-                    tenant: loaded,
-                    context_size,
-                    ..
-                },
-            ) if *loaded == tenant => {
-                if number == program {
-                    return Some(*context_size);
-                }
-                number = number.saturating_add(1);
-            }
-            _ => {}
-        }
-    }
-    None
 }

@@ -22,6 +22,7 @@ use std::io::Write;
 use std::sync::Wait;
 use tenant_runs::RunReply;
 use tenant_workers::TenantPlan;
+use verifier::Verified;
 
 /// Writes what came of each tenant's plan: what its runs were answered, and then the values that are looked up.
 /// Answers the status.
@@ -69,6 +70,7 @@ fn print_runs<W: Write, E: Write>(
         print_tenant(
             tenant,
             &plan.replies,
+            plan.programs.as_slice(),
             commands,
             printed,
             writer,
@@ -82,6 +84,7 @@ fn print_runs<W: Write, E: Write>(
 fn print_tenant<W: Write, E: Write>(
     tenant: usize,
     replies: &[Result<RunReply, Fault>],
+    programs: &[Verified],
     commands: &[Command],
     printed: &mut Report,
     writer: &mut W,
@@ -107,11 +110,16 @@ fn print_tenant<W: Write, E: Write>(
             &beginning,
             begun,
             &reply_of(answer),
-            commands,
+            context_size_of(programs, beginning.program),
         )?;
         begun = begun.saturating_add(u64::from(answer.is_ok()));
     }
     Ok(())
+}
+
+/// The size of contexts that a program was loaded with, if there is one of this number.
+fn context_size_of(programs: &[Verified], number: u32) -> Option<u32> {
+    Some(programs.get(number as usize)?.ctx_size())
 }
 
 /// What opens a command's run, where it is a run of this tenant.
