@@ -1,11 +1,10 @@
-//! Compares the host with results that the Linux kernel computed, for the program `golden_kernel`, and with
-//! worked examples, for `golden_worked`. A row is four texts between tabs: a name, a program in hex, what it
-//! returns, and in how many steps (`-` for any number); a fifth is its context in hex, which is empty where there is
-//! none. Its program is decoded, verified by `verify` and by
-//! both passes of the plain verifier, and run, and it is run on the plain machine too. So are texts that it
-//! becomes by a change: each is refused, or it goes as on the plain machine. They are all its beginnings,
-//! and, of the texts with one bit flipped, one for each byte; `changes.rt` says which bit, and which of them
-//! the plain verifier verifies too. Trying all bits would take eight times as long and more.
+//! Compares the host with results that the Linux kernel computed, and with worked examples, for the program
+//! `golden_results`. A row is four texts between tabs: a name, a program in hex, what it returns, and in how many
+//! steps (`-` for any number); a fifth is its context in hex, which is empty where there is none. Its program is
+//! decoded, verified by `verify` and by both passes of the plain verifier, and run, and it is run on the plain
+//! machine too. So are texts that it becomes by a change: each is refused, or it goes as on the plain machine.
+//! They are all its beginnings, and, of the texts with one bit flipped, one for each byte; `changes.rt` says which
+//! bit, and which of them the plain verifier verifies too. Trying all bits would take eight times as long and more.
 #![tactic(auto)]
 
 mod changes;

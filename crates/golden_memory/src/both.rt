@@ -1,9 +1,8 @@
 //! A memory and the plain program, to which the same is done.
 
-ghost use Rattle.std.specs.Prelude.{◌+◌, ◌<◌, ◌≤◌, IsTrue, length};
-ghost use Rattle.page_table.specs.Changes.{IsPageOf};
-ghost use Rattle.page_table.specs.State.{part, map_bytes};
+ghost use Rattle.std.specs.Prelude.{◌<◌, ◌≤◌, length};
 
+use crate::there::{has, is_there};
 use host_types::limits::{self, MAX_MAPS, MAX_PAGES};
 use host_types::{Fault, MapNo, Opt, Options, Page, Status, Visited};
 use ksm_counters::counters;
@@ -58,21 +57,6 @@ fn first_page_index(tenant: u32, map: MapNo) -> usize
     ensures { result ≤ 17592186044416 }
 {
     (tenant as usize * MAX_MAPS + map as usize) * MAX_PAGES
-}
-
-/// Whether some bytes are in a tenant's map.
-fn has(memory: &Memory, tenant: u32, map: MapNo, at: u32, len: u32) -> bool
-    ensures { IsTrue result → at + len ≤ length (map_bytes (part memory.now tenant) map) }
-{
-    let whole = memory.byte_len(tenant, map);
-    at <= whole && len <= whole - at
-}
-
-/// Whether the page is there.
-fn is_there(memory: &Memory, page: Page) -> bool
-    ensures { IsTrue result → IsPageOf memory.now page }
-{
-    page.number < memory.byte_len(page.tenant, page.map).div_ceil(4096)
 }
 
 /// What the memory keeps of the page at an index.

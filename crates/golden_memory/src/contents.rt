@@ -8,10 +8,11 @@ use host_types::{Fault, Options, Visited};
 use page_table::Memory;
 use scanner::visit;
 use std::alloc::Global;
+use std::io;
 use write_break::{needs, store};
 
 /// How many contents there are.
-pub(crate) const CONTENTS: u32 = 1000;
+const CONTENTS: u32 = 1000;
 
 /// How many of them are in a map.
 const IN_A_MAP: u32 = 250;
@@ -95,7 +96,20 @@ fn found_in(memory: &mut Memory) -> [u32; 2] {
 }
 
 /// What is found in a new memory.
-pub(crate) fn found_again(alloc: Global) -> Result<[u32; 2], Fault> {
+fn found_again(alloc: Global) -> Result<[u32; 2], Fault> {
     let mut memory = filled(alloc)?;
     Ok(found_in(&mut memory))
+}
+
+/// Prints the row of many contents.
+pub(crate) fn print_contents(rt: &(impl AllocGlobal + Print)) -> io::Result<()> {
+    match found_again(rt.alloc()) {
+        Ok(found) => {
+            let [paired, joined] = found;
+            println!(rt;
+                "{CONTENTS} contents on two pages each: {paired} pairs, and {joined} found again"
+            )
+        }
+        Err(_) => println!(rt; "{CONTENTS} contents: a map or a memory is refused"),
+    }
 }

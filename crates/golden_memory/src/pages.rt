@@ -1,10 +1,11 @@
 //! What is done to single pages, where it may be done.
 
-ghost use Rattle.std.specs.Prelude.{◌≡◌, ◌≢◌, ◌+◌, ◌≤◌, IsTrue, length};
+ghost use Rattle.std.specs.Prelude.{◌≡◌, ◌≢◌, IsTrue};
 ghost use Rattle.host_types.specs.Pages.{page_bytes, zero_page};
-ghost use Rattle.page_table.specs.State.{part, map_bytes, bytes_of_map};
+ghost use Rattle.page_table.specs.State.{bytes_of_map};
 ghost use Rattle.page_table.specs.Changes.{IsPageOf, MayMerge};
 
+use crate::there::{has, is_there};
 use host_types::{Fault, Page};
 use page_table::Memory;
 use std::alloc::{AllocError, Global};
@@ -20,21 +21,6 @@ pub(crate) fn page(tenant: u32, number: u32) -> Page {
         map: 0,
         number,
     }
-}
-
-/// Whether some bytes are in a tenant's first map.
-fn has(memory: &Memory, tenant: u32, at: u32, len: u32) -> bool
-    ensures { IsTrue result → at + len ≤ length (map_bytes (part memory.now tenant) 0) }
-{
-    let whole = memory.byte_len(tenant, 0);
-    at <= whole && len <= whole - at
-}
-
-/// Whether the page is there.
-fn is_there(memory: &Memory, page: Page) -> bool
-    ensures { IsTrue result → IsPageOf memory.now page }
-{
-    page.number < memory.byte_len(page.tenant, page.map).div_ceil(4096)
 }
 
 /// Whether a page may be merged, has a frame of its own and isn't pinned.
@@ -120,7 +106,7 @@ pub(crate) fn end(memory: &mut Memory, tenant: u32) -> bool {
 
 /// The number in eight bytes of a tenant's first map.
 pub(crate) fn number_at(memory: &Memory, tenant: u32, at: u32) -> Option<u64> {
-    if !has(memory, tenant, at, 8) || at % 8 != 0 {
+    if !has(memory, tenant, 0, at, 8) || at % 8 != 0 {
         return None;
     }
     Some(load(memory, tenant, 0, at, 8))
@@ -128,7 +114,7 @@ pub(crate) fn number_at(memory: &Memory, tenant: u32, at: u32) -> Option<u64> {
 
 /// How many frames a store of some bytes of a tenant's first map takes.
 pub(crate) fn cost(memory: &Memory, tenant: u32, at: u32, len: u32) -> Option<u32> {
-    if !has(memory, tenant, at, len) {
+    if !has(memory, tenant, 0, at, len) {
         return None;
     }
     Some(needs(memory, tenant, 0, at, len))
@@ -143,7 +129,7 @@ pub(crate) fn fill(
     len: u32,
     byte: u8,
 ) -> Result<bool, Fault> {
-    if len > MOST || !has(memory, tenant, at, len) {
+    if len > MOST || !has(memory, tenant, 0, at, len) {
         return Ok(false);
     }
     if needs(memory, tenant, 0, at, len) > memory.have() {

@@ -1,5 +1,5 @@
 use Rattle.std.proofs.Common.{◌≡◌, length}
-use Rattle.bench_arena.proofs.time.Given as goal
+use Rattle.bench_memory.proofs.arena.time.Given as goal
 
 abbrev pub invariant-loop : goal.invariant-loop
 invariant-loop g l = length l.arena ≡ 64

@@ -1,5 +1,5 @@
-//! What small memories answer, visit by visit, and their counters. A line of the standard input says what
-//! is done to the memory at hand, in words between spaces; it is printed, and after it what was answered:
+//! The rows of the standard input. Each is a line that says what is done to the memory at hand, in words between
+//! spaces; it is printed, and after it what was answered:
 //!
 //!     memory FRAMES TENANTS                 a new memory, with the standard options
 //!     map TENANT VALUE_SIZE ENTRIES         a map whose pages may be merged
@@ -17,16 +17,11 @@
 //!     visit COUNT                           what each visit did
 //!     unmerge, counters                     everything unmerged; the nine counters
 //!     OPTION VALUE                          an option, by its name
-//!
-//! The file `stdout` says what is wanted.
-#![tactic(auto)]
 
-mod pages;
-
+use crate::pages::{begin, cost, end, fill, number_at, page, pair, zero};
 use host_types::{Fault, Opt, Options};
 use ksm_counters::{counters, text};
 use page_table::Memory;
-use pages::{begin, cost, end, fill, number_at, page, pair, zero};
 use scanner::{set, unmerge_all, visit};
 use std::alloc::Global;
 use std::io;
@@ -201,10 +196,13 @@ fn obey_all<W: Write>(
     Ok(())
 }
 
-fn main(rt: HostRuntime) -> io::Result<()> {
-    let mut out = rt.stdout();
-    let Ok(mut memory) = Memory::new(rt.alloc(), 2, 1, Options::standard()) else {
-        return Ok(());
-    };
-    obey_all(&rt, &mut out, &mut memory)
+/// Does what each line of the input says, and writes what is answered. The first memory has two frames.
+pub(crate) fn answer_rows<W: Write>(
+    rt: &(impl AllocGlobal + Input),
+    writer: &mut W,
+) -> io::Result<()> {
+    match Memory::new(rt.alloc(), 2, 1, Options::standard()) {
+        Ok(mut memory) => obey_all(rt, writer, &mut memory),
+        Err(fault) => writeln!(writer, "{fault}"),
+    }
 }

@@ -1,5 +1,5 @@
 use Rattle.std.proofs.Common.{◌≡◌, length}
-use Rattle.bench_arena.proofs.measure.Given as goal
+use Rattle.bench_memory.proofs.arena.measure.Given as goal
 
 abbrev pub invariant-loop-name : goal.invariant-loop-name
 invariant-loop-name g l = length l.arena ≡ 64

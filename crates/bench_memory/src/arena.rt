@@ -1,18 +1,13 @@
-//! How long each call of an arena takes, on one frame after another of 62 among 64. The one argument is
-//! the number of rounds; without it nothing is measured or printed.
-#![tactic(auto)]
+//! How long each call of an arena takes, on one frame after another of 62 among 64.
 
 ghost use Rattle.std.specs.Prelude.{◌≡◌, length};
 
-mod calls;
-
-use calls::{Call, made};
+use crate::calls::{Call, made};
 use frame_arena::FrameArena;
 use std::alloc::{AllocError, Global};
 use std::io;
 use std::rt::Clock;
 use std::time::Instant;
-use tests_inputs::rounds_of;
 
 /// How many calls of one kind a round has.
 const CALLS: u32 = 10_000;
@@ -75,6 +70,7 @@ fn time_of_new(rt: &impl Clock, alloc: Global, rounds: u32) -> io::Result<f64> {
     Ok(least)
 }
 
+/// Measures each call, and prints the table.
 fn measure(
     rt: &(impl Clock + Print),
     alloc: Global,
@@ -94,12 +90,13 @@ fn measure(
     Ok(())
 }
 
-fn main(rt: HostRuntime) -> io::Result<()> {
-    let Some(rounds) = rounds_of(&rt)? else {
-        return Ok(());
-    };
+/// Measures the calls of an arena in so many rounds.
+pub(crate) fn measure_arena(
+    rt: &(impl AllocGlobal + Clock + Print),
+    rounds: u32,
+) -> io::Result<()> {
     match FrameArena::new(rt.alloc(), 64) {
-        Ok(mut arena) => measure(&rt, rt.alloc(), &mut arena, rounds),
+        Ok(mut arena) => measure(rt, rt.alloc(), &mut arena, rounds),
         Err(AllocError) => println!(rt; "no memory"),
     }
 }

@@ -1,21 +1,16 @@
-//! How long a turn takes, alone and between threads, beside a mutex of std round the same memory.
-//! The one argument is the number of turns of a round; without it nothing is measured or printed.
-#![tactic(auto)]
+//! How long a turn takes, alone and between threads, beside a mutex of std round another such memory.
 
 ghost use Rattle.std.specs.Prelude.{◌≡◌};
 ghost use Rattle.turn.specs.Seats.{IsIdle};
 
-mod jobs;
-
+use crate::jobs::{Four, Job, Locks, Turns};
 use host_types::Options;
-use jobs::{Four, Job, Locks, Turns};
 use page_table::Memory;
 use std::rt::Clock;
 use std::sync::{Mutex, Wait};
 use std::thread::Threads;
 use std::time::{Duration, Instant};
 use std::{io, thread};
-use tests_inputs::rounds_of;
 
 /// How many rounds there are of each row. Its time is the one in the middle.
 const ROUNDS: usize = 11;
@@ -151,15 +146,16 @@ fn measure<R: Print + Clock + Threads + Wait + Sync>(
     print_table(rt, &mut turns, &mut locks, count)
 }
 
-fn main(rt: HostRuntime) -> io::Result<()> {
-    let Some(count) = rounds_of(&rt)? else {
-        return Ok(());
-    };
+/// Measures rounds of so many turns.
+pub(crate) fn measure_turns<R: AllocGlobal + Print + Clock + Threads + Wait + Sync>(
+    rt: &R,
+    count: u32,
+) -> io::Result<()> {
     let Ok(four) = Four::new(rt.alloc()) else {
-        return Ok(());
+        return println!(rt; "no memory");
     };
-    let Ok(memory) = Memory::new(rt.alloc(), 5, 4, Options::standard()) else {
-        return Ok(());
-    };
-    measure(&rt, four, &Mutex::new(memory), count)
+    match Memory::new(rt.alloc(), 5, 4, Options::standard()) {
+        Ok(memory) => measure(rt, four, &Mutex::new(memory), count),
+        Err(_) => println!(rt; "no memory"),
+    }
 }
