@@ -21,9 +21,6 @@ static uint8_t file[1 << 20];
 static struct bpf_host_object object, running;
 static struct bpf_host_refused refused;
 
-/* Whether pages of maps may share frames with equal ones of others: it saves memory, and costs visits and time. */
-static const bool share_pages = false;
-
 /* A `struct request` of client 7. */
 static const uint8_t request[8] = {7};
 
@@ -67,11 +64,12 @@ static uint32_t read_upload(size_t size)
     return code;
 }
 
-/* Loads what was read for the spare tenant, with maps of its own, and frees the other one's program and maps. */
+/* Loads what was read for the spare tenant, with maps of its own, whose pages aren't to share frames with equal ones (false), and frees the other
+ * one's program and maps. */
 static uint32_t load_apart(struct bpf_host *host, uint32_t *tenant, uint32_t *program)
 {
     uint32_t spare = 1 - *tenant, next = 0;
-    uint32_t code = bpf_host_load_object(host, spare, &object, share_pages, &next, &refused);
+    uint32_t code = bpf_host_load_object(host, spare, &object, false, &next, &refused);
     if (code != 0)
         return code;
     must(bpf_host_unload(host, *tenant, *program));
@@ -122,7 +120,7 @@ int main(int argc, char **argv)
     must(bpf_host_new(BPF_HOST_ENOUGH_FRAMES(TENANTS * QUOTA), TENANTS, &defaults, &host));
     code = read_upload(size);
     if (code == 0)
-        code = bpf_host_load_object(&host, tenant, &object, share_pages, &program, &refused);
+        code = bpf_host_load_object(&host, tenant, &object, false, &program, &refused);
     if (code != 0)
         return reject(code);                             /* object.why has the line of C */
     running = object;

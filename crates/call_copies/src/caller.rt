@@ -3,7 +3,7 @@
 use crate::call_copy::{CallCopy, size_of};
 use crate::copy::copied;
 use crate::expansion::{Begins, MOST_SLOTS};
-use crate::frame::{STACK, frame_of};
+use crate::frame::{Followed, STACK};
 use crate::inlined::{Inlined, Origin};
 use crate::instruction::Insn;
 use crate::liveness::{live, live_after, written};
@@ -26,7 +26,8 @@ pub(crate) fn with_copies(
     function: &Function<'_>,
     made: &[Option<Made>],
 ) -> Result<Made, NotInlined> {
-    let frame = frame_of(alloc, function.text)?;
+    let followed = Followed { function, made };
+    let frame = followed.frame(alloc)?;
     let caller = Caller {
         number,
         function,
@@ -38,6 +39,7 @@ pub(crate) fn with_copies(
     Ok(Made {
         whole,
         frame: deepest(frame, copies.as_slice()),
+        lent: followed.lent(alloc)?,
     })
 }
 
@@ -83,7 +85,7 @@ impl Caller<'_> {
         after: u16,
         made: &[Option<Made>],
     ) -> Result<CallCopy, NotInlined> {
-        let Some(called) = self.called_at(slot, made) else {
+        let Some(called) = self.function.called_at(slot, made) else {
             return Err(Stop::UnknownCall.at(slot));
         };
         let saved = after & written(called.whole.text.as_slice());
@@ -94,15 +96,6 @@ impl Caller<'_> {
         }
         let copy = copied(alloc, &called.whole, shift)?;
         Ok(CallCopy { saved, copy, end })
-    }
-
-    /// The text that is called at a slot.
-    fn called_at<'m>(&self, slot: usize, made: &'m [Option<Made>]) -> Option<&'m Made> {
-        let call = self.function.calls.iter().find(|call| call.slot == slot)?;
-        match made.get(call.function) {
-            Some(Some(called)) => Some(called),
-            _ => None,
-        }
     }
 
     /// The whole text, of which each slot begins where it is said.

@@ -217,6 +217,20 @@ impl Insn {
         self.has_source() && self.src == FRAME_POINTER
     }
 
+    /// The register that is the second operand of arithmetic on another number than its own: a copy of all 64 bits, and a byte swap, have none.
+    pub fn operand(&self) -> Option<u8> {
+        let is_swap = self.opcode / 16 == 0xd;
+        if self.class() == Class::Arithmetic
+            && self.has_source()
+            && !is_swap
+            && self.copied().is_none()
+        {
+            Some(self.src)
+        } else {
+            None
+        }
+    }
+
     /// Whether R10 is copied.
     pub fn copies_frame_pointer(&self) -> bool {
         self.opcode == MOV && self.src == FRAME_POINTER && self.offset == 0

@@ -1,6 +1,7 @@
 //! Functions in the order in which copies of them are made: each after those that it calls.
 
 use crate::caller::with_copies;
+use crate::frame::Lent;
 use crate::inlined::Inlined;
 use crate::stop::{NotInlined, Stop};
 use std::alloc::Global;
@@ -19,11 +20,23 @@ pub struct Call {
     pub function: usize,
 }
 
-/// A text without calls of functions, if it is made, with how much stack it uses.
+impl Function<'_> {
+    /// The text that is called at a slot, if it is made.
+    pub(crate) fn called_at<'m>(&self, slot: usize, made: &'m [Option<Made>]) -> Option<&'m Made> {
+        let call = self.calls.iter().find(|call| call.slot == slot)?;
+        match made.get(call.function) {
+            Some(Some(called)) => Some(called),
+            _ => None,
+        }
+    }
+}
+
+/// A text without calls of functions, if it is made, with how much stack it uses, and what it does with each of its arguments.
 #[derive(Drop)]
 pub(crate) struct Made {
     pub whole: Inlined,
     pub frame: i16,
+    pub lent: Vec<Lent>,
 }
 
 /// The text of function 0 with a copy of the called function's text at each call.
