@@ -122,11 +122,11 @@ int main(int argc, char **argv)
     if (code == 0)
         code = bpf_host_load_object(&host, tenant, &object, false, &program, &refused);
     if (code != 0)
-        return reject(code);                             /* object.why has the line of C */
+        return reject(code);                                                                 /* object.why has the line of C */
     running = object;
     for (int upload = 2;; upload++) {
-        code = bpf_host_run(&host, tenant, program, request, sizeof request, &run, &refused);
-        status = code == 0 ? status_of(run.ret) : 503;   /* a run that is refused didn't start */
+        code = bpf_host_run(&host, tenant, program, request, sizeof request, &run, &refused);   /* for each request */
+        status = code == 0 ? status_of(run.ret) : 503;                                           /* a refused run didn't start */
         printf("%u\n", status);
         if (upload >= argc)
             break;

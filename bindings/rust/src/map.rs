@@ -22,6 +22,14 @@ pub struct Shape {
     pub entries: u32,
 }
 
+impl Shape {
+    /// The pages of 4096 bytes of such a map, where a value takes a multiple of eight bytes.
+    pub(crate) fn pages(self) -> u64 {
+        let stride = (u64::from(self.value_size) + 7) / 8 * 8;
+        (stride * u64::from(self.entries) + 4095) / 4096
+    }
+}
+
 impl<'h> Map<'h> {
     /// The number by which programs name the map: 0 to 7.
     pub fn number(&self) -> u32 {

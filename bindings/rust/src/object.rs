@@ -99,6 +99,12 @@ impl Object {
         numbered.find_map(|(number, map)| (map.name == name).then_some(number))
     }
 
+    /// How many pages of 4096 bytes the maps take. Who uploads a file chooses its maps, so refuse one that takes more than its owner may have: a host
+    /// that has two frames for each page that all its tenants may have, and two more, refuses no call for lack of them.
+    pub fn pages(&self) -> u64 {
+        self.maps.iter().map(|map| map.shape.pages()).sum()
+    }
+
     fn of(read: &ffi::Object) -> Object {
         Object {
             context_size: read.context_size,

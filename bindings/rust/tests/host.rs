@@ -470,6 +470,42 @@ fn a_map_without_its_whole_name_is_nobodys() {
     }
 }
 
+/// An object's maps take just the pages for which a host has frames, besides one for zeros, and not one fewer (docs/MEMORY.md).
+#[test]
+fn an_object_has_the_pages_of_its_maps() {
+    let object = Object::read(&file("globals.o"), "", 0).unwrap();
+    for (value_size, entries, pages) in [
+        (1, 1, 1),
+        (8, 513, 2),
+        (4, 1024, 2),
+        (24, 200, 2),
+        (4096, 256, 256),
+        (16, 65536, 256),
+    ] {
+        let shape = Shape {
+            value_size,
+            entries,
+        };
+        let mut one = with_map(&object, 0, |map| map.shape = shape);
+        one.maps.truncate(1);
+        assert_eq!(one.pages(), pages, "{shape:?}");
+        let host = host(pages as u32 + 1, 1);
+        host.tenant(0).create_map(shape, true).unwrap();
+        let more = Shape {
+            value_size: 1,
+            entries: 1,
+        };
+        assert!(host.tenant(0).create_map(more, true).is_err(), "{shape:?}");
+    }
+    let doubled = with_map(&object, 0, |map| {
+        map.shape = Shape {
+            value_size: 4096,
+            entries: 5,
+        }
+    });
+    assert_eq!(doubled.pages(), object.pages() + 4);
+}
+
 /// What is read doesn't pass over the stack, of which the library may take 96 KiB.
 #[test]
 fn an_object_is_read_on_a_small_stack() {
