@@ -20,7 +20,7 @@ enum Kept {
 }
 
 /// Whether a name is that of a section, or has it before a dot.
-fn is_named(name: &[u8], section: &[u8]) -> bool {
+pub(crate) fn is_named(name: &[u8], section: &[u8]) -> bool {
     match name.strip_prefix(section) {
         Some(rest) => matches!(rest.first(), None | Some(b'.')),
         None => false,

@@ -1,5 +1,6 @@
 //! Which function of an object file is the program.
 
+use crate::data::is_named;
 use crate::object::{Object, Section, Symbol, Symbols};
 use object_error::{Cause, ObjectError, shown};
 use std::alloc::Global;
@@ -19,7 +20,8 @@ impl Function {
     }
 }
 
-/// Which functions are looked at: those that other files see, in one section, in all named by SEC, or in .text.
+/// Where functions are looked for: in one section, in all named by SEC, or in .text and those whose names begin with `.text.`, in which clang
+/// has what is `hot`, `cold` or given a section for each function.
 #[derive(Clone, Copy)]
 enum Among {
     Section(usize),
@@ -108,8 +110,8 @@ fn is_among(object: &Object<'_>, symbol: &Symbol, among: Among) -> Result<bool, 
     }
     match among {
         Among::Section(number) => Ok(number == section.number),
-        Among::Sections => Ok(!object.is_named(&section, b".text")?),
-        Among::Text => object.is_named(&section, b".text"),
+        Among::Sections => Ok(!is_named(object.name(&section)?, b".text")),
+        Among::Text => Ok(is_named(object.name(&section)?, b".text")),
     }
 }
 
