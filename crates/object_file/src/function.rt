@@ -30,7 +30,8 @@ enum Among {
 }
 
 /// The function that is the program: the one with a chosen name, the one of the section with that name, or else the only one in
-/// sections with names of their own, or else the only one in .text. Of several none is taken.
+/// sections with names of their own, or else the only one in .text. Of several none is taken. Where one is seen by other files, those that
+/// are `static` don't count.
 pub(crate) fn chosen(
     alloc: Global,
     object: &Object<'_>,
@@ -72,17 +73,31 @@ fn in_section(
     }))
 }
 
-/// The only function among some.
+/// The only function among some: of those that other files see, or, where there is none, of those that are `static`.
 fn only(
     alloc: Global,
     object: &Object<'_>,
     symbols: &Symbols<'_>,
     among: Among,
 ) -> Result<Option<Function>, ObjectError> {
+    match only_seen(alloc, object, symbols, among, true)? {
+        Some(function) => Ok(Some(function)),
+        None => only_seen(alloc, object, symbols, among, false),
+    }
+}
+
+/// The only function among those of some that other files see, or that they don't.
+fn only_seen(
+    alloc: Global,
+    object: &Object<'_>,
+    symbols: &Symbols<'_>,
+    among: Among,
+    is_seen: bool,
+) -> Result<Option<Function>, ObjectError> {
     let mut found: Option<Symbol> = None;
     for number in 0..symbols.count() {
         let symbol = symbols.symbol(number)?;
-        if !is_among(object, &symbol, among)? {
+        if symbol.is_global() != is_seen || !is_among(object, &symbol, among)? {
             continue;
         }
         if let Some(first) = found {
@@ -101,7 +116,7 @@ fn only(
 
 /// Whether a symbol is that of a function among some.
 fn is_among(object: &Object<'_>, symbol: &Symbol, among: Among) -> Result<bool, ObjectError> {
-    if !symbol.is_function() || !symbol.is_global() || symbol.is_undefined() {
+    if !symbol.is_function() || symbol.is_undefined() {
         return Ok(false);
     }
     let section = object.section(symbol.section)?;
@@ -185,10 +200,22 @@ fn beginning_at(
     section: usize,
     begin: usize,
 ) -> Result<Option<Function>, ObjectError> {
+    match symbol_at(symbols, section, begin)? {
+        Some(symbol) => Ok(Some(function_of(object, &symbol)?)),
+        None => Ok(None),
+    }
+}
+
+/// The symbol of the function that begins at an offset of a section.
+pub(crate) fn symbol_at(
+    symbols: &Symbols<'_>,
+    section: usize,
+    begin: usize,
+) -> Result<Option<Symbol>, ObjectError> {
     for number in 0..symbols.count() {
         let symbol = symbols.symbol(number)?;
         if symbol.is_function() && symbol.section == section && symbol.value == begin {
-            return Ok(Some(function_of(object, &symbol)?));
+            return Ok(Some(symbol));
         }
     }
     Ok(None)
