@@ -76,6 +76,12 @@ pub enum Cause {
     NotCall,
     #[error("`{0}` is not defined in this file; there is no linker, so define it here, or mark it static inline")]
     Unresolved(String),
+    #[error("`{0}` is a common symbol, for which a linker would find room; compile with `-fno-common`, or give it an initial value")]
+    Common(String),
+    #[error("the offset of `{0}` would count twice: the instruction adds it as the relocation does, as by gcc's assembler; compile with clang")]
+    CountedTwice(String),
+    #[error("the address of function `{0}` is taken; call it by name")]
+    FunctionAddress(String),
     #[error("the address of `{0}` is taken, which is neither a map nor a global variable")]
     OtherAddress(String),
     #[error("a call leads to no function of this file")]
@@ -92,7 +98,7 @@ pub enum Cause {
     CoreRelocations,
     #[error("the ninth map; a tenant has at most eight, and .bss, each .data and all .rodata together are one each")]
     TooManyMaps,
-    #[error("maps in .maps are described by BTF, and there is no section .BTF; compile with `-g`")]
+    #[error("maps in .maps are described by BTF, and there is none for them; compile with `-g`")]
     NoBtf,
     #[error("BTF that cannot be read")]
     BadBtf,
@@ -102,6 +108,8 @@ pub enum Cause {
     TooManyLines,
     #[error("BTF of kind {0}, which is unknown")]
     UnknownBtfKind(u32),
+    #[error("`{0}` in .maps is no struct that describes a map; each map is a variable of its own")]
+    NoMapStruct(String),
     #[error("the map `{0}` has no symbol in its section")]
     NoMapSymbol(String),
     #[error("the map `{0}` has type {1}; only BPF_MAP_TYPE_ARRAY, which is 2, is there")]
@@ -112,6 +120,8 @@ pub enum Cause {
     MapFlags(String, u32),
     #[error("the field `{1}` of map `{0}` is not taken; type, key, key_size, value, value_size, max_entries and map_flags are")]
     MapField(String, String),
+    #[error("the field `{1}` of map `{0}` says another number than one before it; leave out one of them")]
+    MapFieldAgain(String, String),
     #[error("the map `{0}` has values of {value_size} bytes and {entries} entries; values have 1 to 4096 bytes, maps 1 to 65536 entries and at most 256 pages", value_size = .1.value_size, entries = .1.entries)]
     MapShape(String, Shape),
     #[error("the definition of map `{0}` is shorter than 20 bytes, or has more fields than struct bpf_map_def, or some of them twice")]
@@ -130,6 +140,9 @@ impl Cause {
             | Cause::NotWide
             | Cause::NotCall
             | Cause::Unresolved(_)
+            | Cause::Common(_)
+            | Cause::CountedTwice(_)
+            | Cause::FunctionAddress(_)
             | Cause::OtherAddress(_)
             | Cause::CallOut
             | Cause::HelperByBtf

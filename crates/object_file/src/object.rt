@@ -316,6 +316,11 @@ impl Symbol {
         matches!(self.info / 16, 1 | 2)
     }
 
+    /// Whether it is a common symbol, for which a linker finds room: SHN_COMMON.
+    pub fn is_common(&self) -> bool {
+        self.section == 0xfff2
+    }
+
     /// Whether it is defined elsewhere: SHN_UNDEF.
     pub fn is_undefined(&self) -> bool {
         self.section == 0

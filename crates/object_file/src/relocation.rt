@@ -3,6 +3,7 @@
 ghost use Rattle.std.specs.Prelude.{◌<◌, IfSome};
 
 use crate::field::{u32_at, u64_at, usize_at};
+use crate::function::symbol_at;
 use crate::map::{Maps, Reach, Target};
 use crate::object::{Object, Symbol, Symbols};
 use object_error::{Cause, ObjectError, shown};
@@ -48,6 +49,31 @@ pub(crate) fn name_of(
     Ok(shown(alloc, symbols.name(symbol)?)?)
 }
 
+/// Why the address of a symbol of a name and what is added to it can't be filled in.
+pub(crate) fn not_filled(
+    alloc: Global,
+    symbols: &Symbols<'_>,
+    symbol: &Symbol,
+    added: i32,
+    name: String,
+) -> Result<Cause, ObjectError> {
+    let Some(address) = address_of(symbol, added) else {
+        return Ok(Cause::OtherAddress(name));
+    };
+    match symbol_at(symbols, symbol.section, address)? {
+        Some(function) => Ok(Cause::FunctionAddress(shown(alloc, symbols.name(&function)?)?)),
+        None => Ok(Cause::OtherAddress(name)),
+    }
+}
+
+/// The address of a symbol and what is added to it.
+fn address_of(symbol: &Symbol, added: i32) -> Option<usize> {
+    let address = i64::try_from(symbol.value)
+        .ok()?
+        .checked_add(i64::from(added))?;
+    usize::try_from(address).ok()
+}
+
 /// What the wide instruction has for an address: its source, the number of a map, and an offset in its first value.
 #[derive(Clone, Copy)]
 pub(crate) struct Filled {
@@ -60,10 +86,7 @@ pub(crate) struct Filled {
 pub(crate) fn filling(maps: &Maps, symbol: &Symbol, added: i32) -> Option<Filled>
     ensures { IfSome result (λ filled. filled.source < 16) }
 {
-    let address = i64::try_from(symbol.value)
-        .ok()?
-        .checked_add(i64::from(added))?;
-    let address = usize::try_from(address).ok()?;
+    let address = address_of(symbol, added)?;
     let target = maps.target(symbol.section, address)?;
     match target.reach {
         Reach::Definition(_) => Some(Filled {

@@ -9,7 +9,9 @@ use crate::function::{Function, Functions};
 use crate::instruction::{CALL, WIDE};
 use crate::map::Maps;
 use crate::object::{Object, REL, RELA, RELOCATION, Section, Symbol, Symbols};
-use crate::relocation::{ADDRESS, FUNCTION, Filled, NONE, Relocation, filling, name_of};
+use crate::relocation::{
+    ADDRESS, FUNCTION, Filled, NONE, Relocation, filling, name_of, not_filled,
+};
 use host_types::limits::MAX_TEXT;
 use object_error::{Cause, ObjectError};
 use std::alloc::Global;
@@ -213,15 +215,40 @@ fn relocate(
     if symbol.is_undefined() {
         return Err(refused(Cause::Unresolved(name)));
     }
-    if relocation.kind == FUNCTION {
-        return relocate_call(tables, &symbol, function, at, functions, text);
+    if symbol.is_common() {
+        return Err(refused(Cause::Common(name)));
     }
+    if relocation.kind == FUNCTION {
+        return relocate_call(tables, &symbol, name, function, at, functions, text);
+    }
+    relocate_address(alloc, tables, &symbol, name, function, at, text)
+}
+
+/// Fills in the address of a symbol of a name, and what the instruction at an offset adds to it. Of a symbol that isn't a section's own clang
+/// adds nothing, and other assemblers its offset, which then counts twice.
+fn relocate_address(
+    alloc: Global,
+    tables: &Tables<'_>,
+    symbol: &Symbol,
+    name: String,
+    function: Function,
+    at: usize,
+    text: &mut Text,
+) -> Result<(), ObjectError>
+    ensures kept { (file : List ℕ) → IsTextOf file text.old → IsTextOf file text.new }
+{
     let Some(added) = added_at(text.bytes.as_slice(), at) else {
-        return Err(refused(Cause::NotWide));
+        return Err(function.refused(at, Cause::NotWide));
     };
-    match filling(tables.maps, &symbol, added) {
+    if added != 0 && !symbol.is_section() {
+        return Err(function.refused(at, Cause::CountedTwice(name)));
+    }
+    match filling(tables.maps, symbol, added) {
         Some(with) => text.fill_in(at, with),
-        None => Err(refused(Cause::OtherAddress(name))),
+        None => {
+            let cause = not_filled(alloc, &tables.symbols, symbol, added, name)?;
+            Err(function.refused(at, cause))
+        }
     }
 }
 
@@ -240,6 +267,7 @@ fn added_at(text: &[u8], at: usize) -> Option<i32>
 fn relocate_call(
     tables: &Tables<'_>,
     symbol: &Symbol,
+    name: String,
     function: Function,
     at: usize,
     functions: &mut Functions,
@@ -252,6 +280,9 @@ fn relocate_call(
         Some(distance) if at % 8 == 0 && !text.has_call(slot) => distance,
         _ => return Err(function.refused(at, Cause::NotCall)),
     };
+    if distance != 0 && !symbol.is_section() {
+        return Err(function.refused(at, Cause::CountedTwice(name)));
+    }
     let Some(begin) = moved(symbol.value, distance) else {
         return Err(function.refused(at, Cause::CallOut));
     };
