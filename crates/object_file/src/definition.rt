@@ -34,6 +34,15 @@ impl Definition {
         flags: 0,
     };
 
+    /// Whether another definition says what this one says: `key` and `key_size` may both be given, and `value` and `value_size`.
+    fn is_kept_by(&self, more: &Definition) -> bool {
+        is_same(self.kind, more.kind)
+            && is_same(self.key_size, more.key_size)
+            && is_same(self.value_size, more.value_size)
+            && is_same(self.entries, more.entries)
+            && is_same(self.flags, more.flags)
+    }
+
     /// The shape of an array map that is so defined. A refusal names the map.
     pub fn shape(
         &self,
@@ -59,6 +68,11 @@ impl Definition {
     }
 }
 
+/// Whether a number stays as it was, if it was said.
+fn is_same(before: u32, after: u32) -> bool {
+    before == 0 || before == after
+}
+
 /// Adds the maps of a section .maps, if there is one, in the order of their types.
 pub(crate) fn add_defined(
     alloc: Global,
@@ -77,7 +91,7 @@ pub(crate) fn add_defined(
     };
     let btf = Btf::read(alloc, section.number, object.contents(&section)?)?;
     let Some(variables) = btf.named(SECTION, b".maps") else {
-        return Err(ObjectError::at(section.number, 0, Cause::BadBtf));
+        return Err(ObjectError::at(number, 0, Cause::NoBtf));
     };
     for variable in 0..variables.count {
         let Some((name, members)) = variable_of(&btf, &variables, variable) else {
@@ -88,20 +102,16 @@ pub(crate) fn add_defined(
     Ok(())
 }
 
-/// The name of a variable of a section, and the struct that it is.
+/// The name of a variable of a section, and its type.
 fn variable_of<'a>(btf: &Btf<'a>, variables: &Type, variable: usize) -> Option<(&'a [u8], Type)> {
     let variable = btf.by_number(btf.word(variables, variable.checked_mul(3)?)?)?;
     if variable.kind != VARIABLE {
         return None;
     }
-    let members = btf.resolved(variable.operand)?;
-    if members.kind != STRUCT {
-        return None;
-    }
-    Some((btf.name(variable.name)?, members))
+    Some((btf.name(variable.name)?, btf.resolved(variable.operand)?))
 }
 
-/// Adds the map of a name that is defined by the members of a struct.
+/// Adds the map of a name that is defined by the members of a struct, if its type is one.
 fn add_map(
     alloc: Global,
     symbols: &Symbols<'_>,
@@ -113,6 +123,9 @@ fn add_map(
 ) -> Result<(), ObjectError>
     ensures { AreShapedMaps maps.old.maps.items → AreShapedMaps maps.new.maps.items }
 {
+    if members.kind != STRUCT {
+        return Err(ObjectError::at(section, 0, Cause::NoMapStruct(shown(alloc, name)?)));
+    }
     let Some(symbol) = symbols.named(section, name)? else {
         return Err(ObjectError::at(section, 0, Cause::NoMapSymbol(shown(alloc, name)?)));
     };
@@ -136,13 +149,15 @@ fn definition_of(
         let Some((field, kind)) = member_of(btf, members, member) else {
             return Err(ObjectError::at(btf.number, 0, Cause::BadBtf));
         };
-        definition = match with_field(definition, btf, field, kind) {
-            Some(definition) => definition,
-            None => {
-                let cause = Cause::MapField(shown(alloc, name)?, shown(alloc, field)?);
-                return Err(ObjectError::at(section, offset, cause));
-            }
+        let Some(more) = with_field(definition, btf, field, kind) else {
+            let cause = Cause::MapField(shown(alloc, name)?, shown(alloc, field)?);
+            return Err(ObjectError::at(section, offset, cause));
         };
+        if !definition.is_kept_by(&more) {
+            let cause = Cause::MapFieldAgain(shown(alloc, name)?, shown(alloc, field)?);
+            return Err(ObjectError::at(section, offset, cause));
+        }
+        definition = more;
     }
     if members.count > MOST_FIELDS {
         let cause = Cause::MapDefinition(shown(alloc, name)?);
