@@ -2,7 +2,7 @@
 
 use crate::accepted::accepted_text;
 use crate::events::{hex_of, write_events, write_shapes};
-use crate::fault::{Fault, written};
+use crate::fault::{Fault, Printed, written};
 use crate::file::bytes_at;
 use crate::fronts::fronts_of;
 use crate::runs::{Accepted, print_runs};
@@ -16,7 +16,7 @@ use terminal_text::quoted;
 
 /// Does what words ask for: prints what an object file has, or what runs of it return. Each value that is dropped at the end has a
 /// function of its own, since the drop at each `?` is proved.
-pub fn answer<R, W>(rt: &R, words: &[String], output: &mut W) -> Result<(), Fault>
+pub fn answer<R, W>(rt: &R, words: &[String], output: &mut W) -> Result<Printed, Fault>
 where
     R: AllocGlobal + Files,
     W: Write,
@@ -26,7 +26,7 @@ where
 }
 
 /// Does what is asked for. What is wrong with words is said before the file is opened.
-fn answer_asked<R, W>(rt: &R, asked: &ToLoad<'_>, output: &mut W) -> Result<(), Fault>
+fn answer_asked<R, W>(rt: &R, asked: &ToLoad<'_>, output: &mut W) -> Result<Printed, Fault>
 where
     R: AllocGlobal + Files,
     W: Write,
@@ -41,7 +41,7 @@ fn answer_fronts<R, W>(
     asked: &ToLoad<'_>,
     fronts: &[Bytes],
     output: &mut W,
-) -> Result<(), Fault>
+) -> Result<Printed, Fault>
 where
     R: AllocGlobal + Files,
     W: Write,
@@ -66,21 +66,30 @@ struct ReadFile<'a> {
 }
 
 impl<'a> ReadFile<'a> {
-    fn answer<W: Write>(self, output: &mut W) -> Result<(), Fault> {
+    fn answer<W: Write>(self, output: &mut W) -> Result<Printed, Fault> {
         let object = object_of(self.alloc, self.asked, self.bytes)?;
         self.answer_object(&object, output)
     }
 
-    fn answer_object<W: Write>(self, object: &ObjectText, output: &mut W) -> Result<(), Fault> {
+    fn answer_object<W: Write>(
+        self,
+        object: &ObjectText,
+        output: &mut W,
+    ) -> Result<Printed, Fault> {
         match &self.asked.form {
-            Form::Events => self.print_events(object, output),
+            Form::Events => self.print_events(object, output)?,
+            Form::Runs(_) => self.print_runs(object, output)?,
             Form::Hex => {
                 let hex = self.hex_text(object)?;
-                written(writeln!(output, "{hex}"))
+                written(writeln!(output, "{hex}"))?;
+                return Ok(printed_without_events(object));
             }
-            Form::Maps => written(write_shapes(object, output)),
-            Form::Runs(_) => self.print_runs(object, output),
+            Form::Maps => {
+                written(write_shapes(object, output))?;
+                return Ok(printed_without_events(object));
+            }
         }
+        Ok(Printed::Whole)
     }
 
     fn print_events<W: Write>(self, object: &ObjectText, output: &mut W) -> Result<(), Fault> {
@@ -113,6 +122,16 @@ impl<'a> ReadFile<'a> {
         let text = accepted_text(self.alloc, self.asked, self.bytes, object)?;
         Ok(hex_of(self.alloc, text.as_slice())?)
     }
+}
+
+/// What is printed of a program without its events.
+fn printed_without_events(object: &ObjectText) -> Printed {
+    for map in &object.maps {
+        if !map.first.is_empty() {
+            return Printed::WithoutFirstBytes;
+        }
+    }
+    Printed::Whole
 }
 
 /// The program of an object file.

@@ -67,18 +67,36 @@ impl<T: Drop> From<AllocFailed<T>> for Fault {
     }
 }
 
+/// What was printed of a program.
+#[derive(Clone, Copy)]
+pub enum Printed {
+    /// All that it has, or all that was asked for.
+    Whole,
+    /// Its text or the shapes of its maps, but not the first bytes of those, which only the events have.
+    WithoutFirstBytes,
+}
+
 /// The status of an outcome: 1 for a refused object file or run, 2 for what else failed.
-pub fn status_of(outcome: &Result<(), Fault>) -> u8 {
+pub fn status_of(outcome: &Result<Printed, Fault>) -> u8 {
     match outcome {
-        Ok(()) => 0,
+        Ok(_) => 0,
         Err(Fault::Refused(..) | Fault::NotLowered(_) | Fault::NotRun) => 1,
         Err(_) => 2,
     }
 }
 
-/// Writes what a fault says.
-pub fn write_fault<W: Write>(errors: &mut W, fault: &Fault) -> io::Result<()> {
-    writeln!(errors, "{fault}")
+/// Writes what is said of an outcome.
+pub fn write_words<W: Write>(errors: &mut W, outcome: &Result<Printed, Fault>) -> io::Result<()> {
+    match outcome {
+        Ok(Printed::Whole) => Ok(()),
+        Ok(Printed::WithoutFirstBytes) => {
+            writeln!(
+                errors,
+                "maps begin with other bytes than zeros, which only the events have: they are printed without --hex and --maps"
+            )
+        }
+        Err(fault) => writeln!(errors, "{fault}"),
+    }
 }
 
 /// What came of a write.

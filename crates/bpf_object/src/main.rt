@@ -13,7 +13,7 @@ mod runs;
 
 use answer::answer;
 use engines::write_line;
-use fault::{Fault, status_of, write_fault, written};
+use fault::{Fault, Printed, status_of, write_words, written};
 use std::alloc::{AllocError, Global};
 use std::env;
 use std::io::{self, BufWriter, Input, Write};
@@ -24,15 +24,13 @@ fn main(rt: HostRuntime) -> ExitCode {
     let stderr = rt.stderr();
     let mut errors = io::writer(&stderr);
     let outcome = run(&rt);
-    if let Err(fault) = &outcome {
-        // The status says it too: the words may be lost.
-        let _ = write_fault(&mut errors, fault);
-    }
+    // The words may be lost: the status says too whether all went well.
+    let _ = write_words(&mut errors, &outcome);
     ExitCode::from(status_of(&outcome))
 }
 
 /// Does what the command line asks for.
-fn run<R>(rt: &R) -> Result<(), Fault>
+fn run<R>(rt: &R) -> Result<Printed, Fault>
 where
     R: AllocGlobal + Env + Files + Input + Print,
 {
@@ -41,18 +39,20 @@ where
 }
 
 /// Does what words ask for, or each line of the standard input where there are none.
-fn answer_words<R>(rt: &R, words: &[String]) -> Result<(), Fault>
+fn answer_words<R>(rt: &R, words: &[String]) -> Result<Printed, Fault>
 where
     R: AllocGlobal + Files + Input + Print,
 {
     let output = BufWriter::new(rt.alloc(), io::writer(rt));
     let mut output = output.map_err(|_| Fault::OutOfMemory(AllocError))?;
-    if words.len() < 2 {
+    let printed = if words.len() < 2 {
         answer_lines(rt, &mut output)?;
+        Printed::Whole
     } else {
-        answer(rt, words, &mut output)?;
-    }
-    written(output.flush())
+        answer(rt, words, &mut output)?
+    };
+    written(output.flush())?;
+    Ok(printed)
 }
 
 /// The words of the command line.
@@ -101,20 +101,22 @@ where
 /// Writes what goes to standard error, and the status.
 fn write_outcome<W: Write>(
     alloc: Global,
-    outcome: &Result<(), Fault>,
+    outcome: &Result<Printed, Fault>,
     output: &mut W,
 ) -> Result<(), Fault> {
-    if let Err(fault) = outcome {
-        write_said(alloc, fault, output)?;
-    }
+    write_said(alloc, outcome, output)?;
     let status = status_of(outcome);
     written(writeln!(output, "status {status}"))
 }
 
-/// Writes the words of a fault.
-fn write_said<W: Write>(alloc: Global, fault: &Fault, output: &mut W) -> Result<(), Fault> {
+/// Writes what goes to standard error.
+fn write_said<W: Write>(
+    alloc: Global,
+    outcome: &Result<Printed, Fault>,
+    output: &mut W,
+) -> Result<(), Fault> {
     let mut said = Vec::new(alloc);
-    written(write_fault(&mut said, fault))?;
+    written(write_words(&mut said, outcome))?;
     written(write_lines(said.as_slice(), output))
 }
 

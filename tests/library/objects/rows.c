@@ -86,13 +86,20 @@ static bool read_words(const char *row, struct asked *asked)
     return is_asked;
 }
 
-/* The lines after a row up to that of its status, as one text, without the marks of a refusal: the status. */
+/* The lines after a row up to that of its status, as one text, without the marks of a refusal: the status. What is said of a program that is taken
+   is left out: the library answers all that it has. */
 static int joined(size_t first, char *text)
 {
     int status = 2;
+    size_t end = first;
     text[0] = '\0';
-    for (size_t at = first; at < count && sscanf(lines[at], "status %d", &status) != 1; at++) {
-        strcat(text, strncmp(lines[at], "! ", 2) == 0 ? lines[at] + 2 : lines[at]);
+    while (end < count && sscanf(lines[end], "status %d", &status) != 1)
+        end++;
+    for (size_t at = first; at < end; at++) {
+        bool is_said = strncmp(lines[at], "! ", 2) == 0;
+        if (is_said && status == 0)
+            continue;
+        strcat(text, is_said ? lines[at] + 2 : lines[at]);
         strcat(text, "\n");
     }
     return status;
