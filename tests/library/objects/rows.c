@@ -17,7 +17,7 @@ static size_t count;
 /* What the words of a row ask for. */
 struct asked {
     char path[256];
-    char name[256];
+    char name[2048];
     const char *form;
     uint32_t tenant;
     uint32_t context_size;
@@ -74,7 +74,7 @@ static bool read_words(const char *row, struct asked *asked)
         else if (strcmp(word, "--maps") == 0)
             asked->form = "maps";
         else if (strcmp(word, "--section") == 0)
-            is_asked = sscanf(strtok(NULL, " "), "%255s", asked->name) == 1;
+            is_asked = sscanf(strtok(NULL, " "), "%2047s", asked->name) == 1;
         else if (strcmp(word, "--context") == 0)
             is_asked = sscanf(strtok(NULL, " "), "%u", &asked->context_size) == 1;
         else if (strcmp(word, "--tenant") == 0)
