@@ -212,11 +212,6 @@ impl Insn {
         self.class() == Class::Arithmetic && self.opcode / 16 == 0xb
     }
 
-    /// Whether R10 is the second operand of arithmetic.
-    pub fn is_of_frame_pointer(&self) -> bool {
-        self.has_source() && self.src == FRAME_POINTER
-    }
-
     /// The register that is the second operand of arithmetic on another number than its own: a copy of all 64 bits, and a byte swap, have none.
     pub fn operand(&self) -> Option<u8> {
         let is_swap = self.opcode / 16 == 0xd;

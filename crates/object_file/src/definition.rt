@@ -12,6 +12,9 @@ use std::alloc::Global;
 /// The type of array maps: BPF_MAP_TYPE_ARRAY.
 pub(crate) const ARRAY_MAP: u32 = 2;
 
+/// The number of a type that is left out.
+const NO_TYPE: u32 = 0;
+
 /// The most fields of a definition that are read: twice as many as there are, and more.
 const MOST_FIELDS: usize = 16;
 
@@ -97,18 +100,26 @@ pub(crate) fn add_defined(
         let Some((name, members)) = variable_of(&btf, &variables, variable) else {
             return Err(ObjectError::at(section.number, 0, Cause::BadBtf));
         };
-        add_map(alloc, symbols, number, &btf, name, &members, maps)?;
+        add_map(alloc, symbols, number, &btf, name, members, maps)?;
     }
     Ok(())
 }
 
-/// The name of a variable of a section, and its type.
-fn variable_of<'a>(btf: &Btf<'a>, variables: &Type, variable: usize) -> Option<(&'a [u8], Type)> {
+/// The name of a variable of a section, and its type, if it has one: clang gives none to an array of structs.
+fn variable_of<'a>(
+    btf: &Btf<'a>,
+    variables: &Type,
+    variable: usize,
+) -> Option<(&'a [u8], Option<Type>)> {
     let variable = btf.by_number(btf.word(variables, variable.checked_mul(3)?)?)?;
     if variable.kind != VARIABLE {
         return None;
     }
-    Some((btf.name(variable.name)?, btf.resolved(variable.operand)?))
+    let name = btf.name(variable.name)?;
+    if variable.operand == NO_TYPE {
+        return Some((name, None));
+    }
+    Some((name, Some(btf.resolved(variable.operand)?)))
 }
 
 /// Adds the map of a name that is defined by the members of a struct, if its type is one.
@@ -118,18 +129,19 @@ fn add_map(
     section: usize,
     btf: &Btf<'_>,
     name: &[u8],
-    members: &Type,
+    members: Option<Type>,
     maps: &mut Maps,
 ) -> Result<(), ObjectError>
     ensures { AreShapedMaps maps.old.maps.items → AreShapedMaps maps.new.maps.items }
 {
-    if members.kind != STRUCT {
-        return Err(ObjectError::at(section, 0, Cause::NoMapStruct(shown(alloc, name)?)));
-    }
+    let members = match members {
+        Some(members) if members.kind == STRUCT => members,
+        _ => return Err(ObjectError::at(section, 0, Cause::NoMapStruct(shown(alloc, name)?))),
+    };
     let Some(symbol) = symbols.named(section, name)? else {
         return Err(ObjectError::at(section, 0, Cause::NoMapSymbol(shown(alloc, name)?)));
     };
-    let definition = definition_of(alloc, section, symbol.value, btf, name, members)?;
+    let definition = definition_of(alloc, section, symbol.value, btf, name, &members)?;
     let shape = definition.shape(alloc, section, symbol.value, name)?;
     let map = maps.add(alloc, section, name, shape, &[], false)?;
     maps.aim(section, Reach::Definition(symbol.value), map)
