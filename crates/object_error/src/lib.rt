@@ -96,7 +96,7 @@ pub enum Cause {
     PacketAccess,
     #[error("CO-RE relocations; there is no kernel whose types they could follow, so include no vmlinux.h")]
     CoreRelocations,
-    #[error("the ninth map; a tenant has at most eight, and .bss, each .data and all .rodata together are one each")]
+    #[error("the ninth map; a tenant has at most eight, and each section of .bss or .data is one, and all of .rodata together")]
     TooManyMaps,
     #[error("maps in .maps are described by BTF, and there is none for them; compile with `-g`")]
     NoBtf,

@@ -125,16 +125,24 @@ fn add_read_only(
 /// Appends the bytes of a section, from a multiple of eight on. Answers where they begin.
 fn append(object: &Object<'_>, section: &Section, bytes: &mut Vec<u8>) -> Result<u32, ObjectError> {
     let contents = object.contents(section)?;
-    for _zero in 0..(8 - bytes.len() % 8) % 8 {
-        bytes.push(0)?;
-    }
+    append_zeros(bytes, (8 - bytes.len() % 8) % 8)?;
     let begin = bytes.len();
-    if begin > MAX_VALUE_SIZE as usize || contents.len() > MAX_VALUE_SIZE as usize - begin {
-        let size = begin.saturating_add(contents.len());
+    if begin > MAX_VALUE_SIZE as usize || section.size > MAX_VALUE_SIZE as usize - begin {
+        let size = begin.saturating_add(section.size);
         return Err(ObjectError::at(section.number, 0, Cause::GlobalsSize(size)));
     }
     bytes.extend_from_slice(contents)?;
+    // The file has no bytes of a section of zeros.
+    append_zeros(bytes, section.size.saturating_sub(contents.len()))?;
     Ok(begin as u32)
+}
+
+/// Appends so many zeros.
+fn append_zeros(bytes: &mut Vec<u8>, count: usize) -> Result<(), ObjectError> {
+    for _zero in 0..count {
+        bytes.push(0)?;
+    }
+    Ok(())
 }
 
 /// Adds a map of one value.

@@ -30,8 +30,8 @@ enum Among {
 }
 
 /// The function that is the program: the one with a chosen name, the one of the section with that name, or else the only one in
-/// sections with names of their own, or else the only one in .text. Of several none is taken. Where one is seen by other files, those that
-/// are `static` don't count.
+/// sections with names of their own, or else the only one in .text. Of several none is taken. A `static` one doesn't count beside one of its
+/// section that other files see, nor in .text beside any such.
 pub(crate) fn chosen(
     alloc: Global,
     object: &Object<'_>,
@@ -80,9 +80,16 @@ fn only(
     symbols: &Symbols<'_>,
     among: Among,
 ) -> Result<Option<Function>, ObjectError> {
-    match only_seen(alloc, object, symbols, among, true)? {
-        Some(function) => Ok(Some(function)),
-        None => only_seen(alloc, object, symbols, among, false),
+    let found = match only_seen(alloc, object, symbols, among, true)? {
+        Some(seen) => {
+            refuse_static_beside(alloc, object, symbols, among, &seen)?;
+            Some(seen)
+        }
+        None => only_seen(alloc, object, symbols, among, false)?,
+    };
+    match found {
+        Some(symbol) => Ok(Some(function_of(object, &symbol)?)),
+        None => Ok(None),
     }
 }
 
@@ -93,25 +100,54 @@ fn only_seen(
     symbols: &Symbols<'_>,
     among: Among,
     is_seen: bool,
-) -> Result<Option<Function>, ObjectError> {
-    let mut found: Option<Symbol> = None;
+) -> Result<Option<Symbol>, ObjectError> {
+    let mut found = None;
     for number in 0..symbols.count() {
         let symbol = symbols.symbol(number)?;
         if symbol.is_global() != is_seen || !is_among(object, &symbol, among)? {
             continue;
         }
         if let Some(first) = found {
-            let first = shown(alloc, symbols.name(&first)?)?;
-            let second = shown(alloc, symbols.name(&symbol)?)?;
-            let cause = Cause::SeveralFunctions(first, second);
-            return Err(ObjectError::at(symbol.section, symbol.value, cause));
+            return Err(several(alloc, symbols, &first, &symbol)?);
         }
         found = Some(symbol);
     }
-    match found {
-        Some(symbol) => Ok(Some(function_of(object, &symbol)?)),
-        None => Ok(None),
+    Ok(found)
+}
+
+/// Refuses a `static` function in a section named by SEC, if the only one that other files see stands in another section: each may be the program.
+fn refuse_static_beside(
+    alloc: Global,
+    object: &Object<'_>,
+    symbols: &Symbols<'_>,
+    among: Among,
+    seen: &Symbol,
+) -> Result<(), ObjectError> {
+    if !matches!(among, Among::Sections) {
+        return Ok(());
     }
+    for number in 0..symbols.count() {
+        let symbol = symbols.symbol(number)?;
+        let may_be_meant = !symbol.is_global() && symbol.section != seen.section;
+        if may_be_meant && is_among(object, &symbol, among)? {
+            return Err(several(alloc, symbols, seen, &symbol)?);
+        }
+    }
+    Ok(())
+}
+
+/// The refusal of two functions, of which each may be the program.
+fn several(
+    alloc: Global,
+    symbols: &Symbols<'_>,
+    first: &Symbol,
+    second: &Symbol,
+) -> Result<ObjectError, ObjectError> {
+    let names = Cause::SeveralFunctions(
+        shown(alloc, symbols.name(first)?)?,
+        shown(alloc, symbols.name(second)?)?,
+    );
+    Ok(ObjectError::at(second.section, second.value, names))
 }
 
 /// Whether a symbol is that of a function among some.

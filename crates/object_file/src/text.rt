@@ -225,7 +225,7 @@ fn relocate(
 }
 
 /// Fills in the address of a symbol of a name, and what the instruction at an offset adds to it. Of a symbol that isn't a section's own clang
-/// adds nothing, and other assemblers its offset, which then counts twice.
+/// adds nothing, and other assemblers its offset, which then counts twice, if it isn't 0.
 fn relocate_address(
     alloc: Global,
     tables: &Tables<'_>,
@@ -240,7 +240,7 @@ fn relocate_address(
     let Some(added) = added_at(text.bytes.as_slice(), at) else {
         return Err(function.refused(at, Cause::NotWide));
     };
-    if added != 0 && !symbol.is_section() {
+    if added != 0 && symbol.value != 0 && !symbol.is_section() {
         return Err(function.refused(at, Cause::CountedTwice(name)));
     }
     match filling(tables.maps, symbol, added) {
