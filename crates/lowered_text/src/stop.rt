@@ -23,7 +23,7 @@ pub fn write_stop<E: Write>(text: &[u8], stopped: &NotLowered, errors: &mut E) -
             copies,
         } => write!(
             errors,
-            "no range ends the loop of slots {first} to {last}, entered at {header}, within 4096 slots: {copies} copies of it were tried"
+            "no range ends the loop of slots {first} to {last}, entered at {header}, within 4096 slots: {copies} copies of it fill them; one that is bounded needs fewer rounds or instructions"
         )?,
         Stop::TooLong => write!(
             errors,

@@ -112,7 +112,7 @@ pub enum Cause {
     NoMapStruct(String),
     #[error("the map `{0}` has no symbol in its section")]
     NoMapSymbol(String),
-    #[error("the map `{0}` has type {1}; only BPF_MAP_TYPE_ARRAY, which is 2, is there")]
+    #[error("the map `{0}` has type {1}; only BPF_MAP_TYPE_ARRAY, which is 2, is there; examples/hash.h makes hash tables of it")]
     MapType(String, u32),
     #[error("the map `{0}` has keys of {1} bytes; keys of array maps have 4")]
     MapKey(String, u32),
