@@ -1,7 +1,7 @@
 /* Runs a customer's filter from an object file in a program of C, and then further ones, each in place of the one before (docs/EMBEDDING.md). At the
  * top:
  *
- *     clang -g -O2 -target bpf -c examples/caps.c -o caps.o
+ *     clang -g -O2 -mcpu=v3 -target bpf -c examples/caps.c -o caps.o
  *     cc examples/embedded.c -Iinclude $(tools/static_library) -o embedded && ./embedded caps.o
  *
  * It prints 200, since a client's first request passes, and `requests: 1`, which the filter's map holds then: with three files that have the same

@@ -1,4 +1,4 @@
-//! A program of an object file, as `clang -g -O2 -target bpf -c` makes it.
+//! A program of an object file, as `clang -g -O2 -mcpu=v3 -target bpf -c` makes it.
 
 use crate::ffi;
 use crate::map::Shape;
