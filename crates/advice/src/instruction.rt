@@ -160,8 +160,8 @@ fn on_back_jump(text: &[u8], slot: u32) -> Advice {
         Advice {
             wrong: "a backward jump forms a loop",
             fix: "use the program `lower`, which unrolls loops as often as they can run, if their \
-                values are bounded: in C bound the count, as in `n = min(n, 40)`, count up, and \
-                add a counter to a loop that has none, such as `while (x)`",
+                values are bounded: in C count up to a constant, as in `for (i = 0; i < 40 && i < \
+                n; i++)`, and for `while (x)` write `for (i = 0; i < 64 && x; i++)`",
         }
     } else {
         Advice {
@@ -216,11 +216,12 @@ fn on_kind(insn: &Insn) -> Option<Advice> {
             width: Width::Bits64,
             source: Source::Register,
         } => (
-            "a number that isn't constant is added to an address in the context or on the stack, \
-                or the source register holds an address",
-            "add only constants to such an address: in C use a `switch` with a case for each \
-                constant, and `asm volatile(\"\" : \"+r\"(x))` after the load of x in each case; \
-                add a number to a pointer that a lookup returned, not the pointer to a number",
+            "the source register holds an address, or a number that isn't constant is added to an \
+                address in the context or on the stack",
+            "add the number to the address, not the address to the number: in C write `p + n` for \
+                a pointer p that isn't cast to a number; add only constants to an address in the \
+                context or on the stack: in C use a `switch` with a case for each constant, and \
+                `asm volatile(\"\" : \"+r\"(x))` after the load of x in each case",
         ),
         Operation::Alu { .. } => (
             "this arithmetic isn't allowed on an address",

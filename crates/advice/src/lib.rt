@@ -7,6 +7,8 @@ mod host;
 mod instruction;
 mod loops;
 mod program;
+mod sum;
+mod unlowered;
 
 ghost use Rattle.std.specs.Prelude.{◌↔◌, IsSome, IsTrue};
 ghost use Rattle.advice.specs.Answered.{is_answered};
@@ -18,6 +20,8 @@ pub use event::{
 };
 use host_types::Refused;
 pub use loops::loop_closed;
+pub use sum::{Sum, on_sum};
+pub use unlowered::{on_endless_loop, on_load_in_loop, on_unlowered_jump};
 
 /// What a refusal says.
 #[derive(Clone, Copy, PartialEq, Eq)]

@@ -5,13 +5,13 @@ ghost use Rattle.bpf_decode.specs.Text.{slots_of};
 
 use crate::check::request::CheckRequest;
 use advice::{
-    Advice, advice_on, advice_on_text, on_context_length, on_context_size, on_frames_for_map,
-    on_frames_for_run, on_frames_for_unmerging, on_frames_for_update, on_host_size, on_map_count,
-    on_option, on_shape, on_shape_count, on_value_size,
+    Advice, advice_on, on_context_length, on_context_size, on_frames_for_map, on_frames_for_run,
+    on_frames_for_unmerging, on_frames_for_update, on_host_size, on_map_count, on_option, on_shape,
+    on_shape_count, on_value_size,
 };
 use bpf_decode::Insn;
 use disassembly::Assembly;
-use findings::{CheckedText, write_findings};
+use findings::{CheckedText, advice_at, write_findings};
 use host_core::Event;
 use host_file::HostFile;
 use host_types::rule::{BAD_LENGTH, CUT_WIDE};
@@ -65,7 +65,7 @@ fn explain_refused_text<W: Write>(
     checked: &CheckedText<'_>,
     refused: Refused,
 ) -> io::Result<()> {
-    explain_program(diagnostics, checked.text, refused)?;
+    explain_program(alloc, diagnostics, checked, refused)?;
     write_findings(alloc, diagnostics, checked, refused)?;
     write_differing(alloc, diagnostics, checked, refused)
 }
@@ -191,10 +191,15 @@ fn wrong_option(options: &Options) -> Option<Opt> {
 
 /// Writes the refusal of a text: the slot that it names and what stands there, the rule, and how to fix
 /// it.
-fn explain_program<W: Write>(diagnostics: &mut W, text: &[u8], refused: Refused) -> io::Result<()> {
+fn explain_program<W: Write>(
+    alloc: Global,
+    diagnostics: &mut W,
+    checked: &CheckedText<'_>,
+    refused: Refused,
+) -> io::Result<()> {
     write!(diagnostics, "slot {}: ", refused.slot)?;
-    write_what_stands(diagnostics, text, refused)?;
-    let advice = advice_on_text(refused, text);
+    write_what_stands(diagnostics, checked.text, refused)?;
+    let advice = advice_at(alloc, checked, refused);
     write_advice(diagnostics, Fault::Program(refused), advice)
 }
 

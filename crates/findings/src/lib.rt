@@ -3,6 +3,7 @@
 #![tactic(auto)]
 
 mod access;
+mod advised;
 mod checked;
 mod cut;
 mod known;
@@ -12,6 +13,7 @@ mod site;
 mod unset;
 
 pub use access::Access;
+pub use advised::{advice_at, advice_by_kinds};
 use bpf_decode::{FRAME_POINTER, Insn};
 pub use checked::{CheckedText, is_within_limits};
 pub use cut::{CLEAR, Cut};

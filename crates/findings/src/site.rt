@@ -19,7 +19,7 @@ impl Kinds {
     }
 
     /// What is known of a register.
-    fn of(&self, register: u8) -> Option<Kind> {
+    pub fn of(&self, register: u8) -> Option<Kind> {
         *self.0.get(usize::from(register))?
     }
 }

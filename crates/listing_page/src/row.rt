@@ -1,9 +1,8 @@
 //! The rows of a page.
 
-use advice::advice_on_text;
 use bpf_decode::Insn;
 use disassembly::AssemblyAt;
-use findings::{write_findings, write_limits};
+use findings::{advice_by_kinds, write_findings, write_limits};
 use host_types::Refused;
 use html_page::{write_comma, write_shown, write_string};
 use listing::{Detail, Differing, Fact, Item, Listing, Location, Row, STACK_SLOTS};
@@ -182,7 +181,8 @@ impl<'a> Rows<'a> {
             refused.number
         )?;
         write_string(alloc, output, refused.name())?;
-        if let Some(advice) = advice_on_text(refused, self.listing.checked().text) {
+        let kinds = self.listing.kinds(refused.slot);
+        if let Some(advice) = advice_by_kinds(self.listing.checked().text, refused, &kinds) {
             write!(output, ",\"wrong\":")?;
             write_string(alloc, output, advice.wrong)?;
             write!(output, ",\"fix\":")?;

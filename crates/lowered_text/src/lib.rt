@@ -9,5 +9,5 @@ mod words;
 
 pub use asked::lowered;
 pub use loops::{Copies, Loop, loops_of};
-pub use stop::write_stop;
+pub use stop::{write_refused, write_stop};
 pub use words::{LoweredProgram, ProgramWords};

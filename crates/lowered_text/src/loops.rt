@@ -34,6 +34,16 @@ pub fn loops_of(alloc: Global, text: &[u8]) -> Result<Vec<Loop>, AllocError> {
     Ok(loops)
 }
 
+/// Whether a slot stands in a loop of a text.
+pub fn is_in_loop(text: &[u8], slot: u32) -> bool {
+    for last in slot..u32::try_from(text.len() / 8).unwrap_or(0) {
+        if matches!(loop_closed(text, last), Some(first) if first <= slot) {
+            return true;
+        }
+    }
+    false
+}
+
 impl Copies<'_> {
     /// The slot for which an instruction of the lowered text stands; none for a jump that was inserted.
     pub fn origin(&self, at: usize) -> Option<u32> {

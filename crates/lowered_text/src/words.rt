@@ -1,11 +1,11 @@
 //! The lowering of a program as the words of `check` name it.
 
 use crate::asked::lowered;
-use crate::stop::write_stop;
-use engines::check::{CheckRequest, check, check_request_of};
+use crate::stop::{write_refused, write_stop};
+use engines::check::{CheckRequest, answer_request, check_request_of};
 use engines::written;
 use host_file::FileFault;
-use lowering::{Lowered, Stop};
+use lowering::{Lowered, NotLowered, Stop};
 use std::alloc::{AllocError, Global};
 use std::io::Write;
 
@@ -39,30 +39,33 @@ impl ProgramWords<'_> {
                 if stopped.stop == Stop::OutOfMemory {
                     return Err(FileFault::OutOfMemory(AllocError));
                 }
-                self.refuse(alloc, errors)?;
+                refuse(alloc, &request, Some(&stopped), errors)?;
                 written(write_stop(request.text.as_slice(), &stopped, errors))?;
                 Ok(None)
             }
             None => {
-                self.refuse(alloc, errors)?;
+                refuse(alloc, &request, None, errors)?;
                 Ok(None)
             }
         }
     }
+}
 
-    /// Writes the line of `check`, and what a refusal means.
-    fn refuse<E: Write>(&self, alloc: Global, errors: &mut E) -> Result<(), FileFault> {
-        let mut line = Vec::new(alloc);
-        let mut meant = Vec::new(alloc);
-        check(
-            alloc,
-            self.hex,
-            self.shapes,
-            self.context,
-            &mut line,
-            &mut meant,
-        )?;
-        written(errors.write_all(line.as_slice()))?;
-        written(errors.write_all(meant.as_slice()))
+/// Writes the line of `check`, and what a refusal means, also where it isn't known what stopped the lowering.
+fn refuse<E: Write>(
+    alloc: Global,
+    request: &CheckRequest,
+    stopped: Option<&NotLowered>,
+    errors: &mut E,
+) -> Result<(), FileFault> {
+    let mut line = Vec::new(alloc);
+    let mut meant = Vec::new(alloc);
+    match stopped {
+        Some(stopped) => write_refused(alloc, request, stopped, &mut line, &mut meant)?,
+        None => {
+            let _status = answer_request(alloc, request, &mut line, &mut meant)?;
+        }
     }
+    written(errors.write_all(line.as_slice()))?;
+    written(errors.write_all(meant.as_slice()))
 }

@@ -6,7 +6,7 @@ use engines::check::{CheckRequest, answer_request};
 use engines::written;
 use host_file::FileFault;
 use host_types::Bytes;
-use lowered_text::write_stop;
+use lowered_text::{write_refused, write_stop};
 use lowering::{NotLowered, Stop};
 use object_file::ShownLine;
 use object_text::{ObjectLines, ObjectText, text_with_lines};
@@ -46,9 +46,9 @@ pub fn refusal_words(
 ) -> Result<String, FileFault> {
     let mut verdict = Vec::new(alloc);
     let mut meant = Vec::new(alloc);
-    answer_request(alloc, request, &mut verdict, &mut meant)?;
     let mut said = String::new(alloc);
     let Some(stopped) = stopped else {
+        let _status = answer_request(alloc, request, &mut verdict, &mut meant)?;
         add(alloc, &mut said, verdict.as_slice(), &ShownLine(None))?;
         add(alloc, &mut said, meant.as_slice(), &ShownLine(None))?;
         return Ok(said);
@@ -56,6 +56,7 @@ pub fn refusal_words(
     if stopped.stop == Stop::OutOfMemory {
         return Err(FileFault::OutOfMemory(AllocError));
     }
+    write_refused(alloc, request, &stopped, &mut verdict, &mut meant)?;
     let mut stop = Vec::new(alloc);
     written(write_stop(request.text.as_slice(), &stopped, &mut stop))?;
     let lines = lines_of(alloc, chosen)?;
