@@ -12,13 +12,16 @@ use hex::encode;
 use host_file::FileFault;
 use host_types::Bytes;
 use listing::{Beside, Listing, Paint, Sources};
-use lowered_text::{Copies, lowered, write_stop};
-use lowering::Lowered;
+use lowered_text::{Copies, lowered, write_refused, write_stop};
+use lowering::{Lowered, NotLowered};
 use object_text::{ObjectLines, text_with_lines};
 use program_source::{Source, path_in, source_of, unreadable, words_fault};
 use std::alloc::{AllocError, Global};
 use std::io::Write;
 use std::rt::Files;
+
+/// The status of `check` for a text that is refused.
+const REFUSED: u8 = 1;
 
 /// Does what words ask for: explains the program that they name, or writes the help or the version.
 pub fn answer<R: AllocGlobal + Files, W: Write>(
@@ -108,16 +111,13 @@ fn explain<W: Write>(
     } else {
         None
     };
-    let mut note = Vec::new(alloc);
-    match outcome {
+    let stopped = match outcome {
         Some(Ok(lowered)) => return explain_lowered(
             alloc, asked, &request, &lowered, sources, paint, output,
         ),
-        Some(Err(stopped)) => {
-            written(write_stop(request.text.as_slice(), &stopped, &mut note))?;
-        }
-        None => {}
-    }
+        Some(Err(stopped)) => Some(stopped),
+        None => None,
+    };
     let lines = match &sources {
         Some(words) => Some(words.sources()),
         None => None,
@@ -127,19 +127,19 @@ fn explain<W: Write>(
         asked,
         &request,
         lines,
-        note.as_slice(),
+        stopped.as_ref(),
         paint,
         output,
     )
 }
 
-/// Explains a text as it is, with a note after it.
+/// Explains a text as it is, and what stopped its lowering, where that was asked for.
 fn explain_given<'a, W: Write>(
     alloc: Global,
     asked: &ToExplain<'_>,
     request: &'a CheckRequest,
     sources: Option<Sources<'a>>,
-    note: &[u8],
+    stopped: Option<&NotLowered>,
     paint: Paint,
     output: &mut W,
 ) -> Result<u8, FileFault> {
@@ -149,7 +149,41 @@ fn explain_given<'a, W: Write>(
         paint,
         is_lowered: false,
     };
-    show(alloc, asked, request, shown, listing.as_ref(), note, output)
+    let mut note = Vec::new(alloc);
+    let verdict = match stopped {
+        Some(stopped) => {
+            written(write_stop(request.text.as_slice(), stopped, &mut note))?;
+            verdict_after(alloc, request, stopped)?
+        }
+        None => VerdictWords::of(alloc, request)?,
+    };
+    let note = note.as_slice();
+    written(write_view(
+        alloc,
+        output,
+        asked,
+        shown,
+        listing.as_ref(),
+        &verdict,
+        note,
+    ))?;
+    Ok(verdict.status)
+}
+
+/// What `check` says of a text whose lowering was stopped: nobody is advised to lower it again.
+fn verdict_after(
+    alloc: Global,
+    request: &CheckRequest,
+    stopped: &NotLowered,
+) -> Result<VerdictWords, FileFault> {
+    let mut line = Vec::new(alloc);
+    let mut meant = Vec::new(alloc);
+    write_refused(alloc, request, stopped, &mut line, &mut meant)?;
+    Ok(VerdictWords {
+        line,
+        meant,
+        status: REFUSED,
+    })
 }
 
 /// Explains a lowered text in the same way, with the slots of the original beside its own, and the lines of these. Of the
@@ -191,21 +225,8 @@ fn explain_lowered<W: Write>(
         paint,
         is_lowered: true,
     };
-    show(alloc, asked, &request, shown, listing.as_ref(), &[], output)
-}
-
-/// Verifies a program, and shows it with its listing. Answers the status of `check`.
-fn show<W: Write>(
-    alloc: Global,
-    asked: &ToExplain<'_>,
-    request: &CheckRequest,
-    shown: Shown,
-    listing: Option<&Listing<'_>>,
-    note: &[u8],
-    output: &mut W,
-) -> Result<u8, FileFault> {
-    let verdict = VerdictWords::of(alloc, request)?;
-    written(write_view(alloc, output, asked, shown, listing, &verdict, note))?;
+    let verdict = VerdictWords::of(alloc, &request)?;
+    written(write_view(alloc, output, asked, shown, listing.as_ref(), &verdict, &[]))?;
     Ok(verdict.status)
 }
 
