@@ -31,16 +31,21 @@ pub fn write_data<W: Write>(output: &mut W, page: &Page<'_>) -> io::Result<()> {
         page.is_accepted, page.is_lowered, page.shows_all
     )?;
     match page.listing {
-        Some(listing) => write_rows(output, listing)?,
+        Some(listing) => write_rows(output, listing, !page.note.is_empty())?,
         None => write!(output, ",\"slots\":0,\"rows\":[]")?,
     }
     write!(output, "}}")
 }
 
-/// Writes the rows of a listing: those up to a refused slot, and then the slots after it that break a rule too.
-fn write_rows<W: Write>(output: &mut W, listing: &Listing<'_>) -> io::Result<()> {
+/// Writes the rows of a listing: those up to a refused slot, and then the slots after it that break a rule too. It is also known whether
+/// the lowering of the text was stopped.
+fn write_rows<W: Write>(
+    output: &mut W,
+    listing: &Listing<'_>,
+    is_unlowered: bool,
+) -> io::Result<()> {
     write!(output, ",\"slots\":{},\"rows\":[", listing.slots())?;
-    let mut rows = Rows::new(listing)?;
+    let mut rows = Rows::new(listing, is_unlowered)?;
     for row in &listing.rows()? {
         rows.write_row(output, *row)?;
     }

@@ -1,9 +1,11 @@
 //! The rows of a page.
 
+use advice::{Advice, on_unlowered_jump};
 use bpf_decode::Insn;
 use disassembly::AssemblyAt;
 use findings::{advice_by_kinds, write_findings, write_limits};
 use host_types::Refused;
+use host_types::rule::BACK_JUMP;
 use html_page::{write_comma, write_shown, write_string};
 use listing::{Detail, Differing, Fact, Item, Listing, Location, Row, STACK_SLOTS};
 use std::alloc::{AllocError, Global};
@@ -19,15 +21,18 @@ const REGISTERS: u32 = 11;
 #[derive(Drop)]
 pub struct Rows<'a> {
     listing: &'a Listing<'a>,
+    /// Whether the lowering of the text was stopped.
+    is_unlowered: bool,
     written: usize,
     before: Vec<Fact>,
 }
 
 impl<'a> Rows<'a> {
     /// None are written, and nothing is known.
-    pub fn new(listing: &'a Listing<'a>) -> Result<Rows<'a>, AllocError> {
+    pub fn new(listing: &'a Listing<'a>, is_unlowered: bool) -> Result<Rows<'a>, AllocError> {
         Ok(Rows {
             listing,
+            is_unlowered,
             written: 0,
             before: nothing(listing.alloc())?,
         })
@@ -181,8 +186,7 @@ impl<'a> Rows<'a> {
             refused.number
         )?;
         write_string(alloc, output, refused.name())?;
-        let kinds = self.listing.kinds(refused.slot);
-        if let Some(advice) = advice_by_kinds(self.listing.checked().text, refused, &kinds) {
+        if let Some(advice) = self.advice_on(refused) {
             write!(output, ",\"wrong\":")?;
             write_string(alloc, output, advice.wrong)?;
             write!(output, ",\"fix\":")?;
@@ -195,6 +199,16 @@ impl<'a> Rows<'a> {
         write!(output, ",\"known\":")?;
         self.write_findings(output, refused)?;
         write!(output, "}}")
+    }
+
+    /// The advice on a refusal. Of a jump back it isn't the lowering that was stopped.
+    fn advice_on(&self, refused: Refused) -> Option<Advice> {
+        let text = self.listing.checked().text;
+        if self.is_unlowered && refused.number == BACK_JUMP {
+            return Some(on_unlowered_jump(text, refused.slot));
+        }
+        let kinds = self.listing.kinds(refused.slot);
+        advice_by_kinds(text, refused, &kinds)
     }
 
     /// Writes what is known at the slot of a refusal.
