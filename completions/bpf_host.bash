@@ -1,5 +1,5 @@
-# Completion of bash for bpf_host, bpf_object, explain, lower and merging: source it, or copy it to
-# /usr/share/bash-completion/completions/.
+# Completion of bash for bpf_host, bpf_object, explain, lower and merging: source it, or copy it under the
+# name of each of these five to /usr/share/bash-completion/completions/.
 
 # Completes the files that begin with the word, after what stands before it, as `@`.
 _bpf_host_files() {

@@ -41,7 +41,7 @@ static void must(uint32_t code)
     }
 }
 
-/* Receives an upload, and returns how many bytes it has. One that is too long is cut, and then refused. */
+/* Receives an upload, and returns how many bytes it has. One that is too long counts as empty, and is then refused. */
 static size_t receive(const char *path)
 {
     FILE *upload = fopen(path, "rb");
@@ -50,6 +50,8 @@ static size_t receive(const char *path)
         exit(1);
     }
     size_t size = fread(file, 1, sizeof file, upload);
+    if (fgetc(upload) != EOF)
+        size = 0;
     fclose(upload);
     return size;
 }

@@ -1,5 +1,6 @@
 /* Hash tables for filters, in array maps: this host has no maps of type hash. A table has keys of 64 bits, a type of values and a power of two of
- * slots; a key lies in one of eight slots that its hash names, so each call makes at most eight lookups.
+ * slots; a key lies in one of eight slots that its hash names, so `find` and `remove` make at most eight lookups, and `find_or_add`
+ * sixteen.
  *
  *     HASH_TABLE(flows, struct flow, 1024);           the map `flows`, a slot of which has the key, its state and the value
  *

@@ -54,6 +54,7 @@
  *     Each call writes to its handle: handles that several threads use are faster in different lines of the cache.
  *   - No call is made from a signal handler, or from the child of a process that had several threads when it forked.
  *   - malloc, realloc and free are the C library's, or others that align as it does, up to 16.
+ *   - The thread has enough stack left: in tests bpf_host_lower, bpf_host_explain and bpf_host_read_object took at most 96 KiB, others 32.
  * bpf_host_free closes a host; one that isn't closed keeps its memory. */
 #ifndef BPF_HOST_H
 #define BPF_HOST_H
@@ -189,8 +190,8 @@ struct bpf_host_shape {
 struct bpf_host_object_map {
     struct bpf_host_shape shape;
     uint32_t first_len;
-    char name[64]; /* UTF-8 and zeros, one at least: a longer name is cut. One with other characters than a name of C and dots is cut after 40 and
-                      escaped for a terminal, not for HTML */
+    char name[64]; /* UTF-8 and zeros, one at least: a longer name is cut. One with other characters than a name of C and dots is escaped for a
+                      terminal, not for HTML, and if it has more than 40, the others are two dots */
     uint8_t first[BPF_HOST_MAX_VALUE];
 };
 
@@ -315,8 +316,8 @@ uint32_t bpf_host_explain(const uint8_t *text, size_t text_len, const struct bpf
 
 /* CALLS FOR AN OBJECT FILE, as made by `clang -g -O2 -target bpf -c`. */
 
-/* Reads an object file, makes one text of the function that `name` selects (its own name, or that of its section; if empty, the only function) and
- * of those that it calls, lowers it as bpf_host_lower does, and writes the text that the verifier accepts, and its maps. No handle is needed, and
+/* Reads an object file, makes one text of the function that `name` selects (the name of its section, or else its own; if empty, the only function)
+ * and of those that it calls, lowers it as bpf_host_lower does, and writes the text that the verifier accepts, and its maps. No handle is needed, and
  * several threads may call it at the same time. Refused: BAD_CONTEXT, BAD_OBJECT, a rule, OUT_OF_MEMORY; then `object->why` has the words of the
  * program `bpf_object`, with the instruction and its line of C (a rule's slot is that of the text before lowering), or says that memory ran out for
  * them, and nothing else in `*object` changed. */
@@ -351,9 +352,9 @@ static inline uint64_t bpf_host_object_pages(const struct bpf_host_object *objec
     return pages;
 }
 
-/* Whether two objects that were read have the same maps by number: names, of C and dots and of less than 63 bytes, so that none was cut or escaped,
- * shapes and initial values. Then bpf_host_replace can put one in place of the other. Their context sizes may differ, and what the bytes of a value
- * mean isn't compared: members of a struct that change places are seen by nobody. */
+/* Whether two objects that were read have the same maps by number: names, of C and dots, of less than 63 bytes and not of 40 and two dots, so that
+ * none was cut or escaped, shapes and initial values. Then bpf_host_replace can put one in place of the other. Their context sizes may differ, and
+ * what the bytes of a value mean isn't compared: members of a struct that change places are seen by nobody. */
 static inline bool bpf_host_same_maps(const struct bpf_host_object *one, const struct bpf_host_object *other)
 {
     static const char plain[] = "ABCDEFGHIJKLMNOPQRSTUVWXYZabcdefghijklmnopqrstuvwxyz0123456789_.";
@@ -361,7 +362,8 @@ static inline bool bpf_host_same_maps(const struct bpf_host_object *one, const s
     for (uint32_t number = 0; same && number < one->maps_len; number++) {
         const struct bpf_host_object_map *a = &one->maps[number], *b = &other->maps[number];
         same = memcmp(a->name, b->name, sizeof a->name) == 0 && a->name[sizeof a->name - 2] == 0 && a->name[sizeof a->name - 1] == 0 &&
-               a->name[strspn(a->name, plain)] == 0 && a->shape.value_size == b->shape.value_size && a->shape.entries == b->shape.entries &&
+               a->name[strspn(a->name, plain)] == 0 && memcmp(a->name + 40, "..", 3) != 0 &&
+               a->shape.value_size == b->shape.value_size && a->shape.entries == b->shape.entries &&
                a->first_len == b->first_len && a->first_len <= sizeof a->first && memcmp(a->first, b->first, a->first_len) == 0;
     }
     return same;

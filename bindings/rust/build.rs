@@ -1,5 +1,5 @@
 //! Links the library: `libbpf_host.a` of a package (`tools/package`), or else what `tools/static_library` built, and the toolchain's C library, whose file
-//! `BPF_HOST_LIBC` names. `BPF_HOST_LIB` names another folder of the library than the one beside this crate.
+//! `BPF_HOST_LIBC` names. `BPF_HOST_LIB` names another folder of the library than the one beside this crate, by an absolute path.
 
 use std::env;
 use std::path::{Path, PathBuf};
@@ -39,6 +39,10 @@ fn main() {
         root.join("../../crates/bpf_host_c/out")
     };
     let folder = env::var("BPF_HOST_LIB").map_or(beside, PathBuf::from);
+    assert!(
+        folder.is_absolute(),
+        "BPF_HOST_LIB must be an absolute path"
+    );
     let packed = folder.join("libbpf_host.a");
     println!("cargo:rustc-link-search=native={}", folder.display());
     if packed.is_file() {

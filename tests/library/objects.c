@@ -200,6 +200,15 @@ static void test_same_maps(void)
     CHECK(bpf_host_same_maps(&other, &other), true);
     other.maps[0].name[62] = 'n';
     CHECK(bpf_host_same_maps(&other, &other), false);
+    /* So is one with another character after its first 40, which are followed by two dots then. */
+    other = object;
+    memset(other.maps[0].name, 0, sizeof other.maps[0].name);
+    memset(other.maps[0].name, 'n', 40);
+    CHECK(bpf_host_same_maps(&other, &other), true);
+    memset(&other.maps[0].name[40], '.', 2);
+    CHECK(bpf_host_same_maps(&other, &other), false);
+    other.maps[0].name[42] = '.';
+    CHECK(bpf_host_same_maps(&other, &other), true);
     /* So is one that may have been escaped. */
     other = object;
     other.maps[0].name[1] = '-';

@@ -138,7 +138,8 @@ impl Host {
         })
     }
 
-    /// A tenant by its number, from 0 on. If there is none, [`Tenant::map`] is refused as `NoMap`, and each other call as `BadTenant`.
+    /// A tenant by its number, from 0 on. If there is none, [`Tenant::map`] is refused as `NoMap`, and each other call as `BadTenant`,
+    /// but for those that ask for no step and no run.
     pub fn tenant(&self, number: u32) -> Tenant<'_> {
         Tenant { host: self, number }
     }
@@ -155,7 +156,8 @@ impl Host {
     /// Sets an option of the scanner.
     ///
     /// # Errors
-    /// `BadOption` if it can't have this value, and `PagesShared` if `max_page_sharing` is to be set while pages share a frame.
+    /// `BadOption` if it can't have this value, and `PagesShared` if `max_page_sharing` is to be set while the counter
+    /// `pages_shared` isn't 0.
     pub fn set(&self, setting: Setting) -> Result<(), Refused> {
         let (option, value) = setting.numbers();
         // SAFETY: as in `visit`.

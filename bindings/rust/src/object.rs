@@ -26,8 +26,8 @@ pub struct Object {
 /// A map of an object file, one that it defines or that its global variables are in.
 #[derive(Clone, Debug, PartialEq, Eq)]
 pub struct ObjectMap {
-    /// Its name, at most 63 bytes of it. One with other characters than a name of C and dots is cut after 40 and escaped for a terminal, not for
-    /// HTML.
+    /// Its name, at most 63 bytes of it. One with other characters than a name of C and dots is escaped for a terminal, not for HTML, and if it
+    /// has more than 40, the others are two dots.
     pub name: String,
     /// Its shape.
     pub shape: Shape,
@@ -47,8 +47,8 @@ pub struct ObjectRefused {
 }
 
 impl Object {
-    /// Reads an object file of at most 16 MiB. The name is that of a function, or of its section; if there is one function, it may be empty. A thread
-    /// that reads files needs a stack of 128 KiB: the library takes at most 96 in tests.
+    /// Reads an object file of at most 16 MiB. The name is that of a function's section, or else of a function; if there is one function, it may be
+    /// empty. A thread that reads files needs a stack of 128 KiB: the library takes at most 96 in tests.
     ///
     /// # Panics
     /// If the library has another version than this crate.
@@ -121,7 +121,9 @@ impl ObjectMap {
     /// Whether the name is surely the one in the file: neither cut nor escaped.
     fn has_whole_name(&self) -> bool {
         let is_plain = |byte: u8| byte.is_ascii_alphanumeric() || byte == b'_' || byte == b'.';
-        self.name.len() <= LONGEST_WHOLE_NAME && self.name.bytes().all(is_plain)
+        // One with another character after its first 40 was cut to these and two dots.
+        let may_be_cut = self.name.len() == 42 && self.name.ends_with("..");
+        self.name.len() <= LONGEST_WHOLE_NAME && !may_be_cut && self.name.bytes().all(is_plain)
     }
 
     fn of(map: &ffi::ObjectMap) -> ObjectMap {

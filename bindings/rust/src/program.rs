@@ -67,7 +67,7 @@ impl<'h> Program<'h> {
     ///
     /// # Errors
     /// `WrongLength` if the contexts can't have one size, and what `run` refuses. It stops at the first refusal, whose member `made` is how many runs
-    /// were made before; the other members of `rets` are unchanged.
+    /// were made before; the other members of `rets` are unchanged. Where `rets` is empty, nothing else is refused.
     pub fn run_many(&self, contexts: &[u8], rets: &mut [u64]) -> Result<(), Refused> {
         let (mut made, mut refused) = (0, ffi::Refused::default());
         // SAFETY: as in `run`; the numbers have their length.

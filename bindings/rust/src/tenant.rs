@@ -18,7 +18,9 @@ pub struct Tenant<'h> {
 }
 
 impl<'h> Tenant<'h> {
-    /// Makes a map of zeros: at most eight for a tenant. `mergeable` says whether the scanner may merge its pages.
+    /// Makes a map of zeros: at most eight for a tenant. `mergeable` says whether the scanner may merge its pages
+    /// with equal ones of other tenants, too: then who chooses contents can make visits slow, and the time of a store may show that another tenant
+    /// has an equal page.
     ///
     /// # Errors
     /// `BadTenant`, `Busy` while a run is open, `TooManyMaps`, `BadShape`, and `NoFrames`.
@@ -91,7 +93,7 @@ impl<'h> Tenant<'h> {
     }
 
     /// Makes the maps of an object file and loads its program, for a tenant that has no map, since the text names maps by number. `map` finds the
-    /// maps afterwards; `load` loads further programs of the same file.
+    /// maps afterwards; `load` loads further programs of the same file. What `mergeable` means is said at [`Tenant::create_map`].
     ///
     /// # Errors
     /// `HasMaps`, and what `create_map`, [`Map::update`] and `load` refuse. Then the maps are dropped, except one to which an older program of the

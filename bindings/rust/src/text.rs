@@ -41,6 +41,8 @@ pub fn verify(text: &[u8], shapes: &[Option<Shape>], context_size: u32) -> Resul
 
 /// A text with the same runs that [`verify`] accepts, with blocks in another order and loops in several copies (docs/LOWER.md).
 ///
+/// It needs as much stack as [`Object::read`](crate::Object::read).
+///
 /// # Panics
 /// As [`verify`].
 ///
@@ -85,6 +87,8 @@ pub fn lower(text: &[u8], shapes: &[Option<Shape>], context_size: u32) -> Result
 
 /// What the program `explain` prints of a text: the line of its verdict, and its instructions with what the verifier knows at each. If memory runs
 /// out, it may say so in place of them.
+///
+/// It needs as much stack as [`Object::read`](crate::Object::read).
 ///
 /// # Panics
 /// As [`verify`].

@@ -461,6 +461,8 @@ fn a_map_without_its_whole_name_is_nobodys() {
     for (name, is_whole) in [
         (&*"n".repeat(62), true),
         (&"n".repeat(63), false),
+        (&("n".repeat(40) + ".."), false),
+        (&("n".repeat(41) + ".."), true),
         (".data.v_2", true),
         (".data-2", false),
         ("\\u{e9}", false),
