@@ -1,5 +1,6 @@
 //! Which function of an object file is the program.
 
+use crate::callers::caller_of;
 use crate::data::is_named;
 use crate::object::{Object, Section, Symbol, Symbols};
 use object_error::{Cause, ObjectError, shown};
@@ -14,6 +15,11 @@ pub(crate) struct Function {
 }
 
 impl Function {
+    /// Whether an offset of a section lies in the function.
+    pub fn has(&self, section: usize, at: usize) -> bool {
+        self.section == section && self.begin <= at && at - self.begin < self.size
+    }
+
     /// The refusal of something at a byte of the function.
     pub fn refused(&self, at: usize, cause: Cause) -> ObjectError {
         ObjectError::at(self.section, self.begin.saturating_add(at), cause)
@@ -29,9 +35,10 @@ enum Among {
     Text,
 }
 
-/// The function that is the program: the one with a chosen name, the one of the section with that name, or else the only one in
-/// sections with names of their own, or else the only one in .text. Of several none is taken. A `static` one doesn't count beside one of its
-/// section that other files see, nor in .text beside any such.
+/// The function that is the program: the one of the section with a chosen name, or else the one with that name; or where none is chosen the
+/// only one in sections with names of their own, or else the only one in .text. Of several none is taken. A `static` one doesn't count beside
+/// one of its section that other files see, nor in .text beside any such. One that another function calls may be its helper, so it has to be
+/// chosen.
 pub(crate) fn chosen(
     alloc: Global,
     object: &Object<'_>,
@@ -39,13 +46,7 @@ pub(crate) fn chosen(
     name: Option<&str>,
 ) -> Result<Function, ObjectError> {
     let Some(name) = name else {
-        if let Some(function) = only(alloc, object, symbols, Among::Sections)? {
-            return Ok(function);
-        }
-        return match only(alloc, object, symbols, Among::Text)? {
-            Some(function) => Ok(function),
-            None => Err(ObjectError::at(0, 0, Cause::NoFunction)),
-        };
+        return unchosen(alloc, object, symbols);
     };
     if let Some(section) = object.named(name.as_bytes())? {
         if section.is_text() {
@@ -58,6 +59,26 @@ pub(crate) fn chosen(
     }
 }
 
+/// The function that is the program where no name chooses it.
+fn unchosen(
+    alloc: Global,
+    object: &Object<'_>,
+    symbols: &Symbols<'_>,
+) -> Result<Function, ObjectError> {
+    let found = match only(alloc, object, symbols, Among::Sections)? {
+        Some(symbol) => Some(symbol),
+        None => only(alloc, object, symbols, Among::Text)?,
+    };
+    let Some(symbol) = found else {
+        return Err(ObjectError::at(0, 0, Cause::NoFunction));
+    };
+    let function = function_of(object, &symbol)?;
+    match caller_of(object, symbols, &function)? {
+        Some(caller) => Err(several(alloc, symbols, &symbol, &caller)?),
+        None => Ok(function),
+    }
+}
+
 /// The only function of a section, or the section itself where no symbol says what its functions are.
 fn in_section(
     alloc: Global,
@@ -65,12 +86,14 @@ fn in_section(
     symbols: &Symbols<'_>,
     section: &Section,
 ) -> Result<Function, ObjectError> {
-    let found = only(alloc, object, symbols, Among::Section(section.number))?;
-    Ok(found.unwrap_or(Function {
-        section: section.number,
-        begin: 0,
-        size: section.size,
-    }))
+    match only(alloc, object, symbols, Among::Section(section.number))? {
+        Some(symbol) => function_of(object, &symbol),
+        None => Ok(Function {
+            section: section.number,
+            begin: 0,
+            size: section.size,
+        }),
+    }
 }
 
 /// The only function among some: of those that other files see, or, where there is none, of those that are `static`.
@@ -79,17 +102,13 @@ fn only(
     object: &Object<'_>,
     symbols: &Symbols<'_>,
     among: Among,
-) -> Result<Option<Function>, ObjectError> {
-    let found = match only_seen(alloc, object, symbols, among, true)? {
+) -> Result<Option<Symbol>, ObjectError> {
+    match only_seen(alloc, object, symbols, among, true)? {
         Some(seen) => {
             refuse_static_beside(alloc, object, symbols, among, &seen)?;
-            Some(seen)
+            Ok(Some(seen))
         }
-        None => only_seen(alloc, object, symbols, among, false)?,
-    };
-    match found {
-        Some(symbol) => Ok(Some(function_of(object, &symbol)?)),
-        None => Ok(None),
+        None => only_seen(alloc, object, symbols, among, false),
     }
 }
 
@@ -242,17 +261,22 @@ fn beginning_at(
     }
 }
 
-/// The symbol of the function that begins at an offset of a section.
+/// The symbol of the function that begins at an offset of a section: of several one that has a size, since clang makes empty functions of those
+/// that never return.
 pub(crate) fn symbol_at(
     symbols: &Symbols<'_>,
     section: usize,
     begin: usize,
 ) -> Result<Option<Symbol>, ObjectError> {
+    let mut found = None;
     for number in 0..symbols.count() {
         let symbol = symbols.symbol(number)?;
         if symbol.is_function() && symbol.section == section && symbol.value == begin {
-            return Ok(Some(symbol));
+            if symbol.size > 0 {
+                return Ok(Some(symbol));
+            }
+            found = Some(symbol);
         }
     }
-    Ok(None)
+    Ok(found)
 }

@@ -1,5 +1,6 @@
-//! Instructions that clang emits and this host doesn't have, in words that say how to do without them.
+//! Calls of functions, and instructions that clang emits and this host doesn't have, in words that say how to do without them.
 
+use crate::field::{part_at, u32_at};
 use object_error::Cause;
 
 /// The opcode of the wide instruction, which takes two slots.
@@ -7,6 +8,21 @@ pub(crate) const WIDE: u8 = 0x18;
 
 /// The opcode of calls: of a helper with source 0, of a function with 1, of a kernel function with 2.
 pub(crate) const CALL: u8 = 0x85;
+
+/// The distance of the call of a function at an offset of a text, in slots: one more than its immediate.
+pub(crate) fn call_at(text: &[u8], at: usize) -> Option<i64> {
+    let slot = part_at(text, at, 8)?;
+    if slot[0] != CALL || slot[1] / 16 != 1 {
+        return None;
+    }
+    Some(i64::from(u32_at(slot, 4)?.cast_signed()) + 1)
+}
+
+/// An offset as many slots away.
+pub(crate) fn moved(offset: usize, slots: i64) -> Option<usize> {
+    let offset = i64::try_from(offset).ok()?;
+    usize::try_from(offset.checked_add(slots.checked_mul(8)?)?).ok()
+}
 
 /// What is wrong with the instruction of an opcode and a source, if there is none of it here.
 pub(crate) fn missing(opcode: u8, source: u8) -> Option<Cause> {

@@ -3,6 +3,7 @@
 #![tactic(auto)]
 
 mod btf;
+mod callers;
 mod data;
 mod definition;
 mod field;

@@ -6,7 +6,7 @@ ghost use Rattle.object_file.specs.Texts.{IsFilled, IsFilledIn};
 
 use crate::field::{part_at, u32_at};
 use crate::function::{Function, Functions};
-use crate::instruction::{CALL, WIDE};
+use crate::instruction::{WIDE, call_at, moved};
 use crate::map::Maps;
 use crate::object::{Object, REL, RELA, RELOCATION, Section, Symbol, Symbols};
 use crate::relocation::{
@@ -290,21 +290,6 @@ fn relocate_call(
         Some(called) => text.add_call(slot, called),
         None => Err(function.refused(at, Cause::CallOut)),
     }
-}
-
-/// The distance of the call of a function at an offset of a text, in slots: one more than its immediate.
-fn call_at(text: &[u8], at: usize) -> Option<i64> {
-    let slot = part_at(text, at, 8)?;
-    if slot[0] != CALL || slot[1] / 16 != 1 {
-        return None;
-    }
-    Some(i64::from(u32_at(slot, 4)?.cast_signed()) + 1)
-}
-
-/// An offset as many slots away.
-fn moved(offset: usize, slots: i64) -> Option<usize> {
-    let offset = i64::try_from(offset).ok()?;
-    usize::try_from(offset.checked_add(slots.checked_mul(8)?)?).ok()
 }
 
 /// The offset that a call leads to, as many slots after its own.
