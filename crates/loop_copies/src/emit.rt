@@ -145,7 +145,7 @@ fn distance(at: u16, to: u16) -> [u8; 2] {
 }
 
 /// An instruction that jumps from a slot to another.
-fn directed(bytes: [u8; 8], at: u16, to: u16) -> [u8; 8] {
+pub(crate) fn directed(bytes: [u8; 8], at: u16, to: u16) -> [u8; 8] {
     let [low, high] = distance(at, to);
     let [opcode, registers, _, _, third, fourth, fifth, sixth] = bytes;
     if opcode == JA32 {

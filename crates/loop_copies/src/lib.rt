@@ -10,6 +10,7 @@ mod flows;
 mod order;
 mod parts;
 mod row;
+mod shorter;
 mod slots;
 mod stop;
 mod values;
@@ -17,6 +18,7 @@ mod walk;
 
 pub use emit::Emitted;
 pub use parts::Parts;
+pub use shorter::Shorter;
 pub use slots::{begins, falls_through, jump_from, slot_after};
 pub use stop::Stop;
 pub use values::Keeping;

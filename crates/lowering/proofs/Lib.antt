@@ -1,4 +1,5 @@
 pub mod Moved
 pub mod Steps
 pub mod Running
+pub mod Shortened
 pub mod Refusals

@@ -14,7 +14,7 @@ use Rattle.interp.specs.Machine.{MachineState, Outcome, Next, Exits, start_state
 use Rattle.interp.specs.Runs.{Runs}
 use Rattle.loop_copies.specs.Slots.{falls_through, slot_numbered, slot_from, jump_by, jump_from}
 use Rattle.lowering.specs.Covering.{LeadAlike, IsCopy, IsInsertedJump, IsCovering}
-use Rattle.lowering.specs.Laws.{ComesTo, Ends, at_origin, CoveringEndsAlike, StatesHaveOrigins, FailuresHaveOrigins, FailuresAreKept, CoveringKeepsFaultless}
+use Rattle.lowering.specs.Laws.{ComesTo, Ends, Fails, at_origin, Rewriting, EndsAlike, StatesHaveOrigins, FailuresHaveOrigins, FailuresAreKept, FaultlessnessIsKept}
 use Rattle.lowering.proofs.Moved.{moved, IsSlotless, alu_slotless, load_slotless, load_immediate_slotless, store_slotless, call_slotless}
 use Rattle.lowering.proofs.Steps.{outcome_at, by, step_is, operation_here, same_operation, copy_steps}
 
@@ -138,16 +138,24 @@ has_run text lowered origins context maps covering zero s e =
 has_run text lowered origins context maps covering (suc n) s e =
     one_more text lowered origins context maps e.0 s covering (has_run text lowered origins context maps covering n e.0 e.1) e.2
 
-pub states_have_origins : StatesHaveOrigins
+pub states_have_origins : StatesHaveOrigins IsCovering
 states_have_origins text lowered origins context maps s covering comes = (has_run text lowered origins context maps covering comes.0 s comes.1).run
 
-pub failures_have_origins : FailuresHaveOrigins
-failures_have_origins text lowered origins context maps s covering fails =
+-- a lowered text fails at a copy alone
+pub fails_as_copy : (text lowered origins context : List ℕ) (maps : FlatMaps) (s : MachineState) → IsCovering text lowered origins → Fails lowered context maps s
+    → IsInstruction lowered s.slot × IsCopy text lowered origins s.slot (slice_index origins s.slot)
+fails_as_copy text lowered origins context maps s covering fails =
     let there = has_run text lowered origins context maps covering fails.0.0 s fails.0.1 in
     elim (covering.covered s.slot there.here) [
-      | inl copy ↦ (there.run, copy_steps text lowered origins (slice_index origins s.slot) s there.here copy ∙ ap (option_map (outcome_at origins)) fails.1)
+      | inl copy ↦ (there.here, copy)
       | inr jump ↦ let goes : None ≡ Some (Next (moved jump.to s)) = sym fails.1 ∙ jump_steps text lowered origins s (slice_index origins s.slot) there.here jump in absurd (cc)
     ]
+
+pub failures_have_origins : FailuresHaveOrigins IsCovering
+failures_have_origins text lowered origins context maps s covering fails =
+    let there = has_run text lowered origins context maps covering fails.0.0 s fails.0.1 in
+    let (here, copy) = fails_as_copy text lowered origins context maps s covering fails in
+    (there.run, copy_steps text lowered origins (slice_index origins s.slot) s here copy ∙ ap (option_map (outcome_at origins)) fails.1)
 
 ends_back : (text lowered origins context : List ℕ) (maps : FlatMaps) (number : ℕ) (left : FlatMaps) → IsCovering text lowered origins → (n : ℕ) → Runs lowered context maps n (Exits number left) → Ends text context maps number left
 ends_back text lowered origins context maps number left covering zero e = absurd (cc)
@@ -159,12 +167,12 @@ ends_back text lowered origins context maps number left covering (suc n) e =
     ]
 
 -- a state of the original, and the run of the lowered text that comes to it at a copy
-record HasCopy (text lowered origins context : List ℕ) (maps : FlatMaps) (s : MachineState) : Type 0 where
-  at : MachineState
-  run : ComesTo lowered context maps at
-  here : IsInstruction lowered at.slot
-  copy : IsCopy text lowered origins at.slot (slice_index origins at.slot)
-  same : at_origin origins at ≡ s
+pub record HasCopy (text lowered origins context : List ℕ) (maps : FlatMaps) (s : MachineState) : Type 0 where
+  pub at : MachineState
+  pub run : ComesTo lowered context maps at
+  pub here : IsInstruction lowered at.slot
+  pub copy : IsCopy text lowered origins at.slot (slice_index origins at.slot)
+  pub same : at_origin origins at ≡ s
 
 -- from any instruction a copy is reached
 to_copy : (text lowered origins context : List ℕ) (maps : FlatMaps) (s t : MachineState) → IsCovering text lowered origins → ComesTo lowered context maps t → IsInstruction lowered t.slot → at_origin origins t ≡ s
@@ -202,7 +210,7 @@ copy_step : (text lowered origins context : List ℕ) (maps : FlatMaps) (s : Mac
 copy_step text lowered origins context maps s found =
     sym (copy_steps text lowered origins (slice_index origins found.at.slot) found.at found.here found.copy) ∙ ap (step text) found.same
 
-has_copy : (text lowered origins context : List ℕ) (maps : FlatMaps) → IsCovering text lowered origins → (n : ℕ) (s : MachineState) → Runs text context maps n (Next s) → HasCopy text lowered origins context maps s
+pub has_copy : (text lowered origins context : List ℕ) (maps : FlatMaps) → IsCovering text lowered origins → (n : ℕ) (s : MachineState) → Runs text context maps n (Next s) → HasCopy text lowered origins context maps s
 has_copy text lowered origins context maps covering zero s e =
     let is : start_state context maps ≡ s = cc in
     to_copy text lowered origins context maps s (start_state context maps) covering (0, refl) covering.start.instruction (start_origin text lowered origins context maps covering ∙ is)
@@ -214,10 +222,14 @@ has_copy text lowered origins context maps covering (suc n) s e =
     (copy_leads text lowered origins (slice_index origins before.at.slot) before.at next.0 before.here before.copy next.1)
     next.2
 
-pub failures_are_kept : FailuresAreKept
+-- where the original fails at a state, the lowered text fails at its copy
+pub copy_fails : (text lowered origins context : List ℕ) (maps : FlatMaps) (s : MachineState) (found : HasCopy text lowered origins context maps s) → step text s ≡ None → Fails lowered context maps found.at
+copy_fails text lowered origins context maps s found fails = (found.run, came_of_none origins (step lowered found.at) (copy_step text lowered origins context maps s found ∙ fails))
+
+pub failures_are_kept : FailuresAreKept IsCovering
 failures_are_kept text lowered origins context maps s covering fails =
     let found = has_copy text lowered origins context maps covering fails.0.0 s fails.0.1 in
-    (found.at, (found.run, came_of_none origins (step lowered found.at) (copy_step text lowered origins context maps s found ∙ fails.1)), found.same)
+    (found.at, copy_fails text lowered origins context maps s found fails.1, found.same)
 
 ends_forth : (text lowered origins context : List ℕ) (maps : FlatMaps) (number : ℕ) (left : FlatMaps) → IsCovering text lowered origins → (n : ℕ) → Runs text context maps n (Exits number left) → Ends lowered context maps number left
 ends_forth text lowered origins context maps number left covering zero e = absurd (cc)
@@ -225,11 +237,15 @@ ends_forth text lowered origins context maps number left covering (suc n) e =
     let found = has_copy text lowered origins context maps covering n e.0 e.1 in
     (suc found.run.0, (found.at, found.run.1, came_of_exit origins (step lowered found.at) number left (copy_step text lowered origins context maps e.0 found ∙ e.2)))
 
-pub ends_alike : CoveringEndsAlike
+pub ends_alike : EndsAlike IsCovering
 ends_alike text lowered origins covering context maps number left =
     (λ ends. ends_forth text lowered origins context maps number left covering ends.0 ends.1, λ ends. ends_back text lowered origins context maps number left covering ends.0 ends.1)
 
-pub keeps_faultless : CoveringKeepsFaultless
-keeps_faultless text lowered origins covering context maps faultless s fails =
-    let kept = failures_are_kept text lowered origins context maps s covering fails in
+-- where failures are kept, a text is faultless if the lowered one is
+pub faultless_by : (rewritten : Rewriting) → FailuresAreKept rewritten → FaultlessnessIsKept rewritten
+faultless_by rewritten are_kept text lowered origins is context maps faultless s fails =
+    let kept = are_kept text lowered origins context maps s is fails in
     faultless kept.0 kept.1
+
+pub keeps_faultless : FaultlessnessIsKept IsCovering
+keeps_faultless = faultless_by IsCovering failures_are_kept

@@ -63,3 +63,21 @@ pub record IsCovering (text lowered origins : List ℕ) : Type 0 where
   pub whole : length origins ≡ slots_of lowered
   pub start : HasOrigin lowered origins 0 0
   pub covered : (at : ℕ) → IsInstruction lowered at → IsCoveredAt text lowered origins at
+
+-- the slot of a shortened text at which a copy of the whole one's instruction stands has the same origin
+abbrev pub KeepsOriginAt : List ℕ → List ℕ → List ℕ → List ℕ → List ℕ → ℕ → Type 0
+KeepsOriginAt whole lowered far near origins at =
+    IsCopy lowered whole near at (slice_index near at) → slice_index origins (slice_index near at) ≡ slice_index far at
+
+-- A text was shortened: it is one that covers the original, without some of its jumps that are always taken. Put in
+-- again they are inserted jumps, so the whole text covers the shortened one, too. `far` has the origins of the whole
+-- text's slots in the original, `near` those in the shortened one, and `origins` those of the shortened one's slots.
+pub record IsShortening (text whole lowered far near origins : List ℕ) : Type 0 where
+  pub long : length origins ≡ slots_of lowered
+  pub covers : IsCovering text whole far
+  pub shorter : IsCovering lowered whole near
+  pub kept : (at : ℕ) → IsInstruction whole at → KeepsOriginAt whole lowered far near origins at
+
+-- a text came of another one that covers the original, without some of its jumps
+abbrev pub IsShortened : List ℕ → List ℕ → List ℕ → Type 0
+IsShortened text lowered origins = (whole : List ℕ) × (far : List ℕ) × (near : List ℕ) × IsShortening text whole lowered far near origins

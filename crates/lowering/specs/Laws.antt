@@ -3,7 +3,6 @@ use Rattle.std.specs.Prelude.{◌≡◌, ℕ, ◌↔◌, List, slice_index, None
 use Rattle.host_types.specs.Memory.{FlatMaps}
 use Rattle.interp.specs.Machine.{MachineState, Next, Exits, step}
 use Rattle.interp.specs.Runs.{Runs}
-use Rattle.lowering.specs.Covering.{IsCovering}
 
 -- a run from the beginning comes to a state
 abbrev pub ComesTo : List ℕ → List ℕ → FlatMaps → MachineState → Type 0
@@ -26,26 +25,30 @@ EndAlike text other =
 abbrev pub at_origin : List ℕ → MachineState → MachineState
 at_origin origins s = record s { slot = slice_index origins s.slot }
 
--- a text that covers another ends as that one does
-abbrev pub CoveringEndsAlike : Type 0
-CoveringEndsAlike = (text lowered origins : List ℕ) → IsCovering text lowered origins → EndAlike text lowered
+-- what a lowered text is to the original, with the slot of the original for which each of its slots stands
+abbrev pub Rewriting : Type 1
+Rewriting = List ℕ → List ℕ → List ℕ → Type 0
+
+-- a text that was rewritten ends as the original does
+abbrev pub EndsAlike : Rewriting → Type 0
+EndsAlike rewritten = (text lowered origins : List ℕ) → rewritten text lowered origins → EndAlike text lowered
 
 -- each state to which a lowered text comes is one to which the original comes, at its origin
-abbrev pub StatesHaveOrigins : Type 0
-StatesHaveOrigins =
-    (text lowered origins context : List ℕ) (maps : FlatMaps) (s : MachineState) → IsCovering text lowered origins
+abbrev pub StatesHaveOrigins : Rewriting → Type 0
+StatesHaveOrigins rewritten =
+    (text lowered origins context : List ℕ) (maps : FlatMaps) (s : MachineState) → rewritten text lowered origins
     → ComesTo lowered context maps s → ComesTo text context maps (at_origin origins s)
 
 -- where a lowered text fails, the original fails at the origin
-abbrev pub FailuresHaveOrigins : Type 0
-FailuresHaveOrigins =
-    (text lowered origins context : List ℕ) (maps : FlatMaps) (s : MachineState) → IsCovering text lowered origins
+abbrev pub FailuresHaveOrigins : Rewriting → Type 0
+FailuresHaveOrigins rewritten =
+    (text lowered origins context : List ℕ) (maps : FlatMaps) (s : MachineState) → rewritten text lowered origins
     → Fails lowered context maps s → Fails text context maps (at_origin origins s)
 
 -- where the original fails, the lowered text fails at a copy
-abbrev pub FailuresAreKept : Type 0
-FailuresAreKept =
-    (text lowered origins context : List ℕ) (maps : FlatMaps) (s : MachineState) → IsCovering text lowered origins
+abbrev pub FailuresAreKept : Rewriting → Type 0
+FailuresAreKept rewritten =
+    (text lowered origins context : List ℕ) (maps : FlatMaps) (s : MachineState) → rewritten text lowered origins
     → Fails text context maps s → (t : MachineState) × Fails lowered context maps t × (at_origin origins t ≡ s)
 
 -- no run of a text with a context and maps fails
@@ -57,5 +60,5 @@ abbrev pub KeepsFaultless : List ℕ → List ℕ → Type 0
 KeepsFaultless text other = (context : List ℕ) (maps : FlatMaps) → IsFaultless other context maps → IsFaultless text context maps
 
 -- where a lowered text never fails, as the verifier grants of those that it accepts, the original never fails
-abbrev pub CoveringKeepsFaultless : Type 0
-CoveringKeepsFaultless = (text lowered origins : List ℕ) → IsCovering text lowered origins → KeepsFaultless text lowered
+abbrev pub FaultlessnessIsKept : Rewriting → Type 0
+FaultlessnessIsKept rewritten = (text lowered origins : List ℕ) → rewritten text lowered origins → KeepsFaultless text lowered

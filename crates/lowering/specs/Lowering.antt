@@ -1,4 +1,4 @@
--- What `lower` makes of a text: the text itself, or one that covers it.
+-- What `lower` makes of a text: the text itself, or one that covers it, without some of its jumps.
 use Rattle.std.specs.Prelude.{◌≡◌, ℕ, ◌<◌, ◌⊎◌, List, length, slice_index, Option}
 use Rattle.host_types.specs.declared.shape.Shape.{Shape}
 use Rattle.host_types.specs.declared.fault.Refused.{Refused}
@@ -6,7 +6,7 @@ use Rattle.bpf_decode.specs.Text.{slots_of, IsFirstFault, out_of_memory}
 use Rattle.verifier.specs.Subject.{Subject, padded}
 use Rattle.verifier.specs.Table.{IsRefusal}
 use Rattle.verifier.specs.Verified.{Accepted, IsVerified}
-use Rattle.lowering.specs.Covering.{IsCovering}
+use Rattle.lowering.specs.Covering.{IsShortened}
 
 -- what is verified of a text
 abbrev pub subject_with : List ℕ → List (Option Shape) → ℕ → Subject
@@ -26,7 +26,7 @@ pub record IsLeftAsItIs (text lowered origins : List ℕ) : Type 0 where
   pub whole : length origins ≡ slots_of text
   pub own : (slot : ℕ) → slot < slots_of text → slice_index origins slot ≡ slot
 
--- A text was lowered: it is the text itself, of which instructions that no run reaches may lead anywhere, or it
--- covers the text.
+-- A text was lowered: it is the text itself, of which instructions that no run reaches may lead anywhere, or it came of
+-- one that covers the text.
 abbrev pub IsLowered : List ℕ → List ℕ → List ℕ → Type 0
-IsLowered text lowered origins = IsLeftAsItIs text lowered origins ⊎ IsCovering text lowered origins
+IsLowered text lowered origins = IsLeftAsItIs text lowered origins ⊎ IsShortened text lowered origins

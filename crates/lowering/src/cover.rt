@@ -4,7 +4,7 @@ ghost use Rattle.std.specs.Prelude.{◌≡◌, ◌↔◌, ◌<◌, ◌+◌, ℕ,
 ghost use Rattle.bpf_decode.specs.Opcodes.{operation_of};
 ghost use Rattle.bpf_decode.specs.Text.{slots_of, insn_at, width_at, is_instruction, IsInstruction};
 ghost use Rattle.loop_copies.specs.Slots.{falls_through};
-ghost use Rattle.lowering.specs.Covering.{undirected, LeadAlike, HasOrigin, IsCopy, IsInsertedJump, IsCoveredAt, IsCovering};
+ghost use Rattle.lowering.specs.Covering.{undirected, LeadAlike, HasOrigin, IsCopy, IsInsertedJump, IsCoveredAt, IsCovering, KeepsOriginAt, IsShortening};
 
 use bpf_decode::{Distance, Insn, Operation, Program};
 use loop_copies::{begins, falls_through, jump_from, slot_after};
@@ -18,6 +18,56 @@ pub fn covers(text: &Program, lowered: &Program, origins: &[u16]) -> bool
     origins.len() == lowered.slots() as usize
         && has_origin(lowered, origins, 0, 0)
         && are_covered(text, lowered, origins)
+}
+
+/// Whether a text came of a whole one, which covers the original, without some of its jumps: put in again they are inserted
+/// jumps. `far` has the origins of the whole text's slots in the original, `near` those in the shortened one, and `origins`
+/// those of the shortened one's slots.
+pub fn shortens(
+    text: &Program,
+    whole: &Program,
+    lowered: &Program,
+    far: &[u16],
+    near: &[u16],
+    origins: &[u16],
+) -> bool
+    ensures { IsTrue result ↔ IsShortening text.now whole.now lowered.now far.now near.now origins.now }
+{
+    origins.len() == lowered.slots() as usize
+        && covers(text, whole, far)
+        && covers(lowered, whole, near)
+        && are_kept(whole, lowered, far, near, origins)
+}
+
+/// Whether each slot of a shortened text has the origin that its copies in the whole text have.
+fn are_kept(whole: &Program, lowered: &Program, far: &[u16], near: &[u16], origins: &[u16]) -> bool
+    ensures { IsTrue result ↔ ((at : ℕ) → IsInstruction whole.now at → KeepsOriginAt whole.now lowered.now far.now near.now origins.now at) }
+{
+    for at in 0..whole.slots() {
+        if !is_kept(whole, lowered, far, near, origins, at) {
+            return false;
+        }
+    }
+    true
+}
+
+/// Whether the slot of a shortened text at which the copy of an instruction stands has the same origin, if one begins at a slot.
+fn is_kept(
+    whole: &Program,
+    lowered: &Program,
+    far: &[u16],
+    near: &[u16],
+    origins: &[u16],
+    at: u32,
+) -> bool
+    requires { at < slots_of whole.now }
+    ensures { IsTrue result ↔ (is_instruction whole.now at ≡ true → KeepsOriginAt whole.now lowered.now far.now near.now origins.now at) }
+{
+    if !whole.begins(at) {
+        return true;
+    }
+    let slot = origin_of(near, at);
+    !is_copy(lowered, whole, near, at, slot) || origin_of(origins, slot) == origin_of(far, at)
 }
 
 /// Whether each instruction of the lowered text is a copy or an inserted jump.

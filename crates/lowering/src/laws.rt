@@ -1,13 +1,23 @@
-ghost use Rattle.lowering.specs.Laws.{CoveringEndsAlike, StatesHaveOrigins, FailuresHaveOrigins, FailuresAreKept, CoveringKeepsFaultless};
+ghost use Rattle.lowering.specs.Covering.{IsCovering, IsShortened};
+ghost use Rattle.lowering.specs.Laws.{EndsAlike, StatesHaveOrigins, FailuresHaveOrigins, FailuresAreKept, FaultlessnessIsKept};
 
 /// A text that covers another has the same runs: it ends with the same number and the same maps, or neither ends; each
 /// state to which it comes is one to which the original comes, at the origin of its slot; and it fails where the
 /// original fails, and nowhere else. So where no run of the lowered text fails, none of the original fails. This is a
 /// law about the definitions, for every body that makes such a text: the function does nothing.
 pub fn covering_keeps_runs()
-    ensures ends { CoveringEndsAlike }
-    ensures states { StatesHaveOrigins }
-    ensures failures { FailuresHaveOrigins }
-    ensures kept { FailuresAreKept }
-    ensures faultless { CoveringKeepsFaultless }
+    ensures ends { EndsAlike IsCovering }
+    ensures states { StatesHaveOrigins IsCovering }
+    ensures failures { FailuresHaveOrigins IsCovering }
+    ensures kept { FailuresAreKept IsCovering }
+    ensures faultless { FaultlessnessIsKept IsCovering }
+{}
+
+/// The same of such a text without some of its jumps.
+pub fn shortening_keeps_runs()
+    ensures ends { EndsAlike IsShortened }
+    ensures states { StatesHaveOrigins IsShortened }
+    ensures failures { FailuresHaveOrigins IsShortened }
+    ensures kept { FailuresAreKept IsShortened }
+    ensures faultless { FaultlessnessIsKept IsShortened }
 {}

@@ -8,7 +8,7 @@ mod cover;
 mod laws;
 mod rewrite;
 
-pub use cover::covers;
-pub use laws::covering_keeps_runs;
+pub use cover::{covers, shortens};
+pub use laws::{covering_keeps_runs, shortening_keeps_runs};
 pub use loop_copies::Stop;
 pub use rewrite::{Lowered, NotLowered, lower};

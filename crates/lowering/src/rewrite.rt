@@ -3,15 +3,15 @@ ghost use Rattle.bpf_decode.specs.Text.{out_of_memory};
 ghost use Rattle.verifier.specs.Subject.{IsContextSize};
 ghost use Rattle.verifier.specs.Verified.{AreShapes};
 ghost use Rattle.loop_copies.specs.declared.stop.Stop.TheVariants.{OutOfMemory};
-ghost use Rattle.lowering.specs.Covering.{IsCovering};
+ghost use Rattle.lowering.specs.Covering.{IsShortened};
 ghost use Rattle.lowering.specs.Laws.{EndAlike, KeepsFaultless};
 ghost use Rattle.lowering.specs.Lowering.{subject_with, VerifierAccepts, IsRefusedBy, IsLeftAsItIs, IsLowered};
 
 use crate::accept::accept;
-use crate::cover::covers;
+use crate::cover::shortens;
 use bpf_decode::{Program, decode};
 use host_types::{Refused, Shape};
-use loop_copies::{Keeping, Parts, Stop};
+use loop_copies::{Keeping, Parts, Shorter, Stop};
 use std::alloc::{AllocError, Global};
 
 /// A lowered text, and for each of its slots the slot of the text for which it stands.
@@ -118,7 +118,7 @@ fn rewritten(
 ) -> Result<Lowered, Stop>
     requires shapes { AreShapes shapes.now }
     requires context { IsContextSize context_size }
-    ensures covers { IfOk result (λ lowered. IsCovering text.now lowered.text.items lowered.origins.items) }
+    ensures shortened { IfOk result (λ lowered. IsShortened text.now lowered.text.items lowered.origins.items) }
     ensures accepted { IfOk result (λ lowered. VerifierAccepts (subject_with lowered.text.items shapes.now context_size)) }
 {
     let program = decode(alloc, text)?;
@@ -164,38 +164,62 @@ fn copied(
 ) -> Result<Lowered, Stop>
     requires shapes { AreShapes shapes.now }
     requires context { IsContextSize context_size }
-    ensures covers { IfOk result (λ lowered. IsCovering program.now lowered.text.items lowered.origins.items) }
+    ensures shortened { IfOk result (λ lowered. IsShortened program.now lowered.text.items lowered.origins.items) }
     ensures accepted { IfOk result (λ lowered. VerifierAccepts (subject_with lowered.text.items shapes.now context_size)) }
 {
     let emitted = parts.copies(alloc, text, keeping)?;
-    let lowered = Lowered {
-        text: emitted.text,
-        origins: emitted.origins,
+    let whole = match decode(alloc, &emitted.text) {
+        Ok(whole) => whole,
+        Err(refused) => return Err(Stop::from(of_original(refused, &emitted.origins))),
     };
-    checked(alloc, program, lowered, shapes, context_size)
+    let shorter = Shorter::of(alloc, &emitted, &whole)?;
+    checked(
+        alloc,
+        program,
+        &whole,
+        &emitted.origins,
+        shorter,
+        shapes,
+        context_size,
+    )
 }
 
-/// The lowered text, if it covers a program's text and the verifier accepts it.
+/// The shorter text, if it came of a whole one that covers a program's text, and the verifier accepts it.
 fn checked(
     alloc: Global,
     program: &Program,
-    lowered: Lowered,
+    whole: &Program,
+    far: &[u16],
+    shorter: Shorter,
     shapes: &[Option<Shape>],
     context_size: u32,
 ) -> Result<Lowered, Stop>
     requires shapes { AreShapes shapes.now }
     requires context { IsContextSize context_size }
-    ensures covers { IfOk result (λ lowered. IsCovering program.now lowered.text.items lowered.origins.items) }
+    ensures shortened { IfOk result (λ lowered. IsShortened program.now lowered.text.items lowered.origins.items) }
     ensures accepted { IfOk result (λ lowered. VerifierAccepts (subject_with lowered.text.items shapes.now context_size)) }
 {
-    let verified = match accept(alloc, &lowered.text, shapes, context_size) {
+    let Shorter {
+        text,
+        origins,
+        new_slots,
+    } = shorter;
+    let verified = match accept(alloc, &text, shapes, context_size) {
         Ok(verified) => verified,
-        Err(refused) => return Err(Stop::from(of_original(refused, &lowered.origins))),
+        Err(refused) => return Err(Stop::from(of_original(refused, &origins))),
     };
-    if !covers(program, verified.program(), &lowered.origins) {
+    let is_right = shortens(
+        program,
+        whole,
+        verified.program(),
+        far,
+        &new_slots,
+        &origins,
+    );
+    if !is_right {
         return Err(Stop::Uncovered);
     }
-    Ok(lowered)
+    Ok(Lowered { text, origins })
 }
 
 /// A refusal at the slot of the original.

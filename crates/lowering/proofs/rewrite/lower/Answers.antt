@@ -1,15 +1,15 @@
 use Rattle.std.proofs.Common.{◌≡◌}
 use Rattle.bpf_decode.specs.Text.{out_of_memory}
 use Rattle.lowering.specs.Lowering.{subject_with}
-use Rattle.lowering.proofs.Running.{ends_alike, keeps_faultless}
+use Rattle.lowering.proofs.Shortened.{shortened_ends_alike, shortened_keeps_faultless}
 use Rattle.lowering.proofs.Refusals.{accepted_is_refused_for_memory}
 use Rattle.lowering.proofs.rewrite.lower.Goals as goal
 
 pub returns-in-Ok-rewritten-clause-runs : goal.returns-in-Ok-rewritten-clause-runs
-returns-in-Ok-rewritten-clause-runs c = ends_alike _ _ _ c.in-Ok-rewritten.ensures.covers
+returns-in-Ok-rewritten-clause-runs c = shortened_ends_alike _ _ _ c.in-Ok-rewritten.ensures.shortened
 
 pub returns-in-Ok-rewritten-clause-faults : goal.returns-in-Ok-rewritten-clause-faults
-returns-in-Ok-rewritten-clause-faults c = keeps_faultless _ _ _ c.in-Ok-rewritten.ensures.covers
+returns-in-Ok-rewritten-clause-faults c = shortened_keeps_faultless _ _ _ c.in-Ok-rewritten.ensures.shortened
 
 pub returns-in-Ok-rewritten-clause-unchanged : goal.returns-in-Ok-rewritten-clause-unchanged
 returns-in-Ok-rewritten-clause-unchanged c = λ accepted.
