@@ -79,5 +79,5 @@ pub record IsShortening (text whole lowered far near origins : List ℕ) : Type 
   pub kept : (at : ℕ) → IsInstruction whole at → KeepsOriginAt whole lowered far near origins at
 
 -- a text came of another one that covers the original, without some of its jumps
-abbrev pub IsShortened : List ℕ → List ℕ → List ℕ → Type 0
-IsShortened text lowered origins = (whole : List ℕ) × (far : List ℕ) × (near : List ℕ) × IsShortening text whole lowered far near origins
+abbrev pub IsShorterCovering : List ℕ → List ℕ → List ℕ → Type 0
+IsShorterCovering text lowered origins = (whole : List ℕ) × (far : List ℕ) × (near : List ℕ) × IsShortening text whole lowered far near origins

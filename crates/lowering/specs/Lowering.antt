@@ -6,7 +6,7 @@ use Rattle.bpf_decode.specs.Text.{slots_of, IsFirstFault, out_of_memory}
 use Rattle.verifier.specs.Subject.{Subject, padded}
 use Rattle.verifier.specs.Table.{IsRefusal}
 use Rattle.verifier.specs.Verified.{Accepted, IsVerified}
-use Rattle.lowering.specs.Covering.{IsShortened}
+use Rattle.lowering.specs.Covering.{IsShorterCovering}
 
 -- what is verified of a text
 abbrev pub subject_with : List ℕ → List (Option Shape) → ℕ → Subject
@@ -29,4 +29,4 @@ pub record IsLeftAsItIs (text lowered origins : List ℕ) : Type 0 where
 -- A text was lowered: it is the text itself, of which instructions that no run reaches may lead anywhere, or it came of
 -- one that covers the text.
 abbrev pub IsLowered : List ℕ → List ℕ → List ℕ → Type 0
-IsLowered text lowered origins = IsLeftAsItIs text lowered origins ⊎ IsShortened text lowered origins
+IsLowered text lowered origins = IsLeftAsItIs text lowered origins ⊎ IsShorterCovering text lowered origins

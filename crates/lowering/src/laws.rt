@@ -1,4 +1,4 @@
-ghost use Rattle.lowering.specs.Covering.{IsCovering, IsShortened};
+ghost use Rattle.lowering.specs.Covering.{IsCovering, IsShorterCovering};
 ghost use Rattle.lowering.specs.Laws.{EndsAlike, StatesHaveOrigins, FailuresHaveOrigins, FailuresAreKept, FaultlessnessIsKept};
 
 /// A text that covers another has the same runs: it ends with the same number and the same maps, or neither ends; each
@@ -15,9 +15,9 @@ pub fn covering_keeps_runs()
 
 /// The same of such a text without some of its jumps.
 pub fn shortening_keeps_runs()
-    ensures ends { EndsAlike IsShortened }
-    ensures states { StatesHaveOrigins IsShortened }
-    ensures failures { FailuresHaveOrigins IsShortened }
-    ensures kept { FailuresAreKept IsShortened }
-    ensures faultless { FaultlessnessIsKept IsShortened }
+    ensures ends { EndsAlike IsShorterCovering }
+    ensures states { StatesHaveOrigins IsShorterCovering }
+    ensures failures { FailuresHaveOrigins IsShorterCovering }
+    ensures kept { FailuresAreKept IsShorterCovering }
+    ensures faultless { FaultlessnessIsKept IsShorterCovering }
 {}

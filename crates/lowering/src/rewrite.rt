@@ -3,7 +3,7 @@ ghost use Rattle.bpf_decode.specs.Text.{out_of_memory};
 ghost use Rattle.verifier.specs.Subject.{IsContextSize};
 ghost use Rattle.verifier.specs.Verified.{AreShapes};
 ghost use Rattle.loop_copies.specs.declared.stop.Stop.TheVariants.{OutOfMemory};
-ghost use Rattle.lowering.specs.Covering.{IsShortened};
+ghost use Rattle.lowering.specs.Covering.{IsShorterCovering};
 ghost use Rattle.lowering.specs.Laws.{EndAlike, KeepsFaultless};
 ghost use Rattle.lowering.specs.Lowering.{subject_with, VerifierAccepts, IsRefusedBy, IsLeftAsItIs, IsLowered};
 
@@ -118,7 +118,7 @@ fn rewritten(
 ) -> Result<Lowered, Stop>
     requires shapes { AreShapes shapes.now }
     requires context { IsContextSize context_size }
-    ensures shortened { IfOk result (λ lowered. IsShortened text.now lowered.text.items lowered.origins.items) }
+    ensures shortened { IfOk result (λ lowered. IsShorterCovering text.now lowered.text.items lowered.origins.items) }
     ensures accepted { IfOk result (λ lowered. VerifierAccepts (subject_with lowered.text.items shapes.now context_size)) }
 {
     let program = decode(alloc, text)?;
@@ -164,7 +164,7 @@ fn copied(
 ) -> Result<Lowered, Stop>
     requires shapes { AreShapes shapes.now }
     requires context { IsContextSize context_size }
-    ensures shortened { IfOk result (λ lowered. IsShortened program.now lowered.text.items lowered.origins.items) }
+    ensures shortened { IfOk result (λ lowered. IsShorterCovering program.now lowered.text.items lowered.origins.items) }
     ensures accepted { IfOk result (λ lowered. VerifierAccepts (subject_with lowered.text.items shapes.now context_size)) }
 {
     let emitted = parts.copies(alloc, text, keeping)?;
@@ -196,7 +196,7 @@ fn checked(
 ) -> Result<Lowered, Stop>
     requires shapes { AreShapes shapes.now }
     requires context { IsContextSize context_size }
-    ensures shortened { IfOk result (λ lowered. IsShortened program.now lowered.text.items lowered.origins.items) }
+    ensures shortened { IfOk result (λ lowered. IsShorterCovering program.now lowered.text.items lowered.origins.items) }
     ensures accepted { IfOk result (λ lowered. VerifierAccepts (subject_with lowered.text.items shapes.now context_size)) }
 {
     let Shorter {
