@@ -282,7 +282,8 @@ fn on_reach(insn: &Insn) -> Option<Advice> {
             "the access may be outside the map's value",
             "before adding the index, compare it, as an unsigned 64-bit number, with the array's \
                 length, or mask it, so that the whole access is inside the value; or give the map \
-                larger values",
+                larger values. In C the compiler drops a mask or a comparison that changes nothing: \
+                put `asm volatile(\"\" : \"+r\"(i))` before it",
         ),
         Operation::LoadImmediate => (
             "the offset isn't less than the size of the map's values",

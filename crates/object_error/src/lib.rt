@@ -82,7 +82,7 @@ pub enum Cause {
     CountedTwice(String),
     #[error("the address of function `{0}` is taken; call it by name")]
     FunctionAddress(String),
-    #[error("the address of `{0}` is taken, which is neither a map nor a global variable")]
+    #[error("the address of `{0}` is taken, which is neither a map nor a global variable in .data, .bss or .rodata; give a variable no section of its own")]
     OtherAddress(String),
     #[error("a call leads to no function of this file")]
     CallOut,

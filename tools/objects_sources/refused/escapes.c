@@ -1,4 +1,4 @@
-/* refused: an address of the stack is stored, or moved by a number that isn't constant; mark the function static __attribute__((always_inline)) */
+/* refused: an address of the stack is stored, or moved by a number that isn't constant, and functions are called; mark these static __attribute__((always_inline)) */
 #include "bpf_helpers.h"
 
 struct request {
