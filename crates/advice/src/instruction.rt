@@ -79,7 +79,8 @@ fn on_opcode(opcode: u8) -> Option<Advice> {
     match opcode {
         0x8d => Some(Advice {
             wrong: "calls through a register aren't supported",
-            fix: "call a helper by its number, and inline functions",
+            fix: "compile with `clang -O2`, by which helpers are called by their numbers; and inline \
+                functions that are called through a pointer",
         }),
         0x20 | 0x28 | 0x30 | 0x40 | 0x48 | 0x50 => Some(Advice {
             wrong: "legacy packet access instructions (ABS and IND) aren't supported",

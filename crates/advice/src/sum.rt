@@ -30,7 +30,8 @@ pub fn on_sum(sum: Sum) -> Advice {
         Sum::NumberToAddress => (
             "a number that isn't constant is added to an address in the context or on the stack",
             "add only constants to such an address: in C use a `switch` with a case for each \
-                constant, and `asm volatile(\"\" : \"+r\"(x))` after the load of x in each case",
+                constant, and `asm volatile(\"\" : \"+r\"(x))` after the load of x in each case; or \
+                make an array on the stack a global variable, whose index needs a bound alone",
         ),
     };
     Advice { wrong, fix }

@@ -20,7 +20,8 @@ pub fn on_unlowered_jump(text: &[u8], slot: u32) -> Advice {
 pub fn on_endless_loop() -> &'static str {
     "in C count up to a constant, as in `for (i = 0; i < 40 && i < n; i++)`, and for `while (x)` \
         write `for (i = 0; i < 64 && x; i++)`; a loop that is bounded needs fewer rounds or \
-        instructions"
+        instructions, or a `u64` as its count: of a `u32` that clang keeps on the stack no range \
+        is known"
 }
 
 /// A load outside the context, in a further copy of a loop.
