@@ -27,7 +27,11 @@ static const uint8_t request[8] = {7};
 /* Says why an upload is refused, and what a program exits with that has none to run. */
 static int reject(uint32_t code)
 {
-    printf("%s\n%s\n", bpf_host_code_name(code), object.why);
+    printf("%s\n", bpf_host_code_name(code));
+    if (code == BPF_HOST_NO_FRAMES)
+        printf("its maps take %u pages of 4 KiB, and it may have %d\n", bpf_host_object_pages(&object), QUOTA);
+    else
+        printf("%s\n", object.why);
     object.why[0] = 0;
     return 1;
 }
