@@ -29,7 +29,7 @@ static int reject(uint32_t code)
 {
     printf("%s\n", bpf_host_code_name(code));
     if (code == BPF_HOST_NO_FRAMES)
-        printf("its maps take %u pages of 4 KiB, and it may have %d\n", bpf_host_object_pages(&object), QUOTA);
+        printf("its maps take %u pages of 4 KiB, and it may have %d\n", (unsigned)bpf_host_object_pages(&object), QUOTA);
     else
         printf("%s\n", object.why);
     object.why[0] = 0;
