@@ -18,3 +18,4 @@ pub mod Complete
 pub mod Described
 pub mod Readings
 pub mod Raised
+pub mod Numbers

@@ -1,9 +1,9 @@
 -- One step of the pass over the slots of a program.
-use Rattle.std.proofs.Common.{◌≡◌, ◌≢◌, ℕ, suc, ◌+◌, ◌<◌, ◌==◌, Bool, true, false, if◌then◌else◌, List, [], ◌∷◌, length, get_or, ◌++◌, map, IfSome, Option, Some, None, Ok, Err, refl, sym, ap, subst, ◌∙◌, inl, inr, arith, add-one}
+use Rattle.std.proofs.Common.{◌≡◌, ◌≢◌, ℕ, suc, ◌+◌, ◌/◌, ◌<◌, ◌≤◌, ◌==◌, Bool, true, false, if◌then◌else◌, List, [], ◌∷◌, length, get_or, ◌++◌, map, IfSome, Option, Some, None, Ok, Err, refl, sym, ap, subst, ◌∙◌, inl, inr, arith, add-one}
 use Rattle.std.specs.Global.{Box}
 use Rattle.std.proofs.lemmas.Bool.Decides.{eqb_tells}
 use Rattle.std.proofs.lemmas.List.Elements.{All-nil}
-use Rattle.std.proofs.lemmas.List.{get_or_read}
+use Rattle.std.proofs.lemmas.List.{get_or_read, length-map}
 use Rattle.bpf_decode.specs.Opcodes.{wide_opcode}
 use Rattle.bpf_decode.specs.Text.{slots_of, opcode_at, width_at, is_instruction, IsInstruction, IsWellFormed}
 use Rattle.verifier_kinds.specs.declared.description.Description.{Description}
@@ -12,7 +12,8 @@ use Rattle.verifier.specs.Subject.{Subject}
 use Rattle.verifier.specs.Flow.{flow, target}
 use Rattle.verifier.specs.Table.{Table, described, flows_by, flows_from, targets_of, known_with, arrived, incoming, tight_up_to, tight_table, Breaks, IsTightTable, IsRefusal, IsCleanBefore}
 use Rattle.verifier.specs.Wide.{HasNoLawful}
-use Rattle.verifier.specs.Pass.{AreDescribed, FlowDescribed, Kept, kinds_in, pending_at, falling, known_with_coming, next_at, IsPassed}
+use Rattle.verifier.specs.Known.{Kept}
+use Rattle.verifier.specs.Pass.{AreDescribed, FlowDescribed, kinds_in, pending_at, falling, known_with_coming, next_at, IsPassed}
 use Rattle.verifier.specs.Verified.{IsSubject, IsVerified}
 use Rattle.verifier.proofs.Tables.{if_same, below_next, IsDescription-incoming}
 use Rattle.verifier.proofs.Tight.{tight_is_tight, length-tight, kept_next}
@@ -200,3 +201,12 @@ pub passed_verified : (p : Subject) → IsSubject p → IsCleanBefore p (tight_t
 passed_verified p s clean flows =
     let tight : IsTightTable p (tight_table p) = record { whole = length-tight p (slots_of p.text); tight = tight_is_tight p (slots_of p.text); clean = clean } in
     record { subject = s; tight = tight; lawful = lawful_from_tight p (tight_table p) s.text tight flows }
+
+-- as many slots are kept as were passed, fewer than a text may have
+pub passed_few : (p : Subject) (kept : Kept) (pending : List (Option (Box Description))) (coming : Option Description) (slot : ℕ) → IsWellFormed p.text → slot < slots_of p.text → IsPassed p kept pending coming slot → length kept < 4096
+passed_few p kept pending coming slot w h i =
+    let long : length kept ≡ slot = ap length i.kinds ∙ length-map (tight_up_to p slot) kinds_in ∙ length-tight p slot in
+    few (length kept) (length p.text) (omega (arith, long, h)) w.sized.most
+  where
+    few : (kept bytes : ℕ) → kept < bytes / 8 → bytes ≤ 32768 → kept < 4096
+    few kept bytes h k = omega arith

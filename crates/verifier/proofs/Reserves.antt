@@ -20,7 +20,8 @@ use Rattle.verifier_kinds.specs.declared.description.Description.{Description}
 use Rattle.verifier_kinds.specs.Kinds.{shape_at}
 use Rattle.verifier.specs.Subject.{Subject}
 use Rattle.verifier.specs.Table.{Table, described, tight_table}
-use Rattle.verifier.specs.Pass.{Kept, kinds_in}
+use Rattle.verifier.specs.Known.{Kept}
+use Rattle.verifier.specs.Pass.{kinds_in}
 use Rattle.verifier.specs.Verified.{Accepted, kind_at}
 use Rattle.verifier.specs.Reserve.{store_cost, update_cost, call_cost, cost_by, cost_at, costs_from, reserve_from}
 use Rattle.verifier.proofs.Tight.{length-tight, tight_is_tight}
@@ -206,10 +207,6 @@ sum_fits v slot reserve cost w is costs =
 -- the kinds that are kept for a slot
 pub kept_at : (p : Subject) (kept : Kept) (slot : ℕ) → kept ≡ map kinds_in (tight_table p) → kinds_in (described (tight_table p) slot) ≡ get_or kept slot None
 kept_at p kept slot is = sym (ap (λ kept. get_or kept slot None) is ∙ get_or-map kinds_in (tight_table p) slot None)
-
--- as many as the text has slots
-pub kept_whole : (p : Subject) (kept : Kept) → kept ≡ map kinds_in (tight_table p) → length kept ≡ slots_of p.text
-kept_whole p kept is = ap length is ∙ length-map (tight_table p) kinds_in ∙ length-tight p (slots_of p.text)
 
 -- kinds are kept for instructions alone
 pub kept_instruction : (p : Subject) (kept : Kept) (slot : ℕ) → IsWellFormed p.text → kept ≡ map kinds_in (tight_table p) → slot < slots_of p.text → IfSome (get_or kept slot None) (λ kinds. IsInstruction p.text slot)

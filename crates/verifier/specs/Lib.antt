@@ -9,3 +9,4 @@ pub mod Reserve
 pub mod Writes
 pub mod Pass
 pub mod Laws
+pub mod Known

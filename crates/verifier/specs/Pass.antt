@@ -9,6 +9,7 @@ use Rattle.verifier.specs.declared.flow.Target.{Target}
 use Rattle.verifier.specs.declared.flow.Onward.{Onward}
 use Rattle.verifier.specs.declared.table.Pass.{Pass}
 use Rattle.verifier.specs.Subject.{Subject}
+use Rattle.verifier.specs.Known.{Kept}
 use Rattle.verifier.specs.Flow.{target}
 use Rattle.verifier.specs.Table.{Table, flows_from, known_with, arrived, incoming, tight_up_to, tight_table, IsCleanBefore}
 
@@ -33,10 +34,6 @@ AreDescribed targets = All (λ t. IsDescription t.1) targets
 -- from the first n slots flow descriptions of the verifier
 abbrev pub FlowDescribed : Subject → Table → ℕ → Type 0
 FlowDescribed p table n = (s : ℕ) → s < n → AreDescribed (flows_from p table s)
-
--- the kinds of the registers at each of some slots, where they are reached
-abbrev pub Kept : Type 0
-Kept = List (Option (List (Option Kind)))
 
 -- the kinds of the registers that are known
 abbrev pub kinds_in : Option Description → Option (List (Option Kind))
@@ -71,4 +68,4 @@ pub record IsPassed (p : Subject) (kept : Kept) (pending : List (Option (Box Des
 
 -- the same of a pass
 abbrev pub HasPassed : Subject → Pass → ℕ → Type 0
-HasPassed p pass slot = IsPassed p pass.kept.items pass.pending.items (falling pass.falls pass.current) slot
+HasPassed p pass slot = IsPassed p pass.kept pass.pending.items (falling pass.falls pass.current) slot

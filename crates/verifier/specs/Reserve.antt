@@ -53,7 +53,3 @@ reserve_from v slot = costs_from v slot (slots_of v.subject.text - slot)
 -- what is kept for the slots of a program is their reserves, and after the text 0
 abbrev pub AreReserves : Accepted → List ℕ → Type 0
 AreReserves v reserves = (slot : ℕ) → slice_index_or reserves slot 0 ≡ reserve_from v slot
-
--- at a slot of a table the registers have these kinds
-abbrev pub HasKindsAt : Table → ℕ → List (Option Kind) → Type 0
-HasKindsAt table slot kinds = (register : ℕ) → kind_at table slot register ≡ slice_index_or kinds register None

@@ -8,6 +8,7 @@ mod calls;
 mod candidate;
 mod flow;
 mod jumps;
+mod known;
 mod laws;
 mod named;
 mod reserve;

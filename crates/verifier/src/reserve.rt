@@ -7,10 +7,10 @@ ghost use Rattle.bpf_decode.specs.Text.{insn_at, slots_of, IsInstruction};
 ghost use Rattle.verifier_kinds.specs.Kinds.{shape_at};
 ghost use Rattle.verifier.specs.Table.{Table, described, tight_table};
 ghost use Rattle.verifier.specs.Pass.{kinds_in};
-ghost use Rattle.verifier.specs.Reserve.{store_cost, update_cost, call_cost, cost_by, AreReserves, HasKindsAt};
+ghost use Rattle.verifier.specs.Reserve.{store_cost, update_cost, call_cost, cost_by, AreReserves};
 
 use crate::candidate::Candidate;
-use crate::table::Registers;
+use crate::known::KnownKinds;
 use bpf_decode::Operation;
 use host_types::MapHelper;
 use std::alloc::{AllocError, Global};
@@ -57,29 +57,20 @@ impl Candidate {
         }
     }
 
-    /// What the instruction at a slot that is reached may need.
-    fn reached_cost(&self, slot: u32, kinds: &Registers) -> u32
-        requires { IsInstruction self.now.text slot }
-        ensures { (table : Table) → HasKindsAt table slot kinds.now
+    /// What the instruction at a slot may need; a slot that isn't reached needs nothing.
+    fn cost(&self, slot: u32, kept: &KnownKinds) -> u32
+        requires { IfSome (slice_index_or kept.now slot None) (λ kinds. IsInstruction self.now.text slot) }
+        ensures { (table : Table) → kinds_in (described table slot) ≡ slice_index_or kept.now slot None
             → result ≡ cost_by self.now table slot (operation_of (insn_at self.now.text slot).opcode) }
     {
+        if !kept.is_reached(slot) {
+            return 0;
+        }
         let insn = self.insn(slot);
         match insn.operation() {
-            Operation::Store { .. } => store_cost(kinds[usize::from(insn.dst)]),
-            Operation::Call => self.call_cost(MapHelper::of(insn.immediate()), kinds[1]),
+            Operation::Store { .. } => store_cost(kept.kind(slot, insn.dst)),
+            Operation::Call => self.call_cost(MapHelper::of(insn.immediate()), kept.kind(slot, 1)),
             _ => 0,
-        }
-    }
-
-    /// What the instruction at a slot may need; a slot that isn't reached needs nothing.
-    fn cost(&self, slot: u32, known: &Option<Registers>) -> u32
-        requires { IfSome known.now (λ kinds. IsInstruction self.now.text slot) }
-        ensures { (table : Table) → kinds_in (described table slot) ≡ known.now
-            → result ≡ cost_by self.now table slot (operation_of (insn_at self.now.text slot).opcode) }
-    {
-        match known {
-            Some(kinds) => self.reached_cost(slot, kinds),
-            None => 0,
         }
     }
 }
@@ -88,7 +79,7 @@ impl Candidate {
 pub(crate) fn reserves(
     alloc: Global,
     candidate: &Candidate,
-    kept: &[Option<Registers>],
+    kept: &KnownKinds,
 ) -> Result<Vec<u32>, AllocError>
     requires { kept.now ≡ map kinds_in (tight_table candidate.now) }
     ensures { IfOk result (λ reserves. AreReserves (record { subject = candidate.now; table = tight_table candidate.now }) reserves.items) }
@@ -97,7 +88,7 @@ pub(crate) fn reserves(
     let mut reserves = vec![in alloc; 0; slots as usize]?;
     let mut reserve = 0;
     for slot in (0..slots).rev() {
-        reserve += candidate.cost(slot, &kept[slot as usize]);
+        reserve += candidate.cost(slot, kept);
         reserves[slot as usize] = reserve;
     }
     Ok(reserves)

@@ -1,6 +1,6 @@
 //! The pass over the slots of a program, which makes its table.
 
-ghost use Rattle.std.specs.Prelude.{◌≡◌, ◌≢◌, ℕ, ◌+◌, ◌<◌, ◌≤◌, ◌++◌, ◌∷◌, [], true, length, map, slice_set, option_map, Some, None, IfOk, IfErr, OnOk, ◌⊎◌};
+ghost use Rattle.std.specs.Prelude.{◌≡◌, ◌≢◌, ℕ, ◌+◌, ◌<◌, ◌≤◌, ◌++◌, ◌∷◌, [], true, length, map, option_map, Some, None, IfOk, IfErr, OnOk, ◌⊎◌};
 ghost use Rattle.host_types.specs.declared.fault.Refused.{Refused};
 ghost use Rattle.bpf_decode.specs.Text.{slots_of, IsInstruction, IsWellFormed, out_of_memory};
 ghost use Rattle.verifier_kinds.specs.declared.kind.Kind.{Kind};
@@ -14,6 +14,7 @@ ghost use Rattle.verifier.specs.Successor.{HasDst, FallsTo, LeadsBelow, successo
 ghost use Rattle.verifier.specs.Pass.{FlowDescribed, falling, kinds_in, known_with_coming, pending_at, HasPassed};
 
 use crate::candidate::Candidate;
+use crate::known::KnownKinds;
 use crate::successor::{Check, Fork, Successor};
 use host_types::Refused;
 use std::alloc::{AllocError, Global};
@@ -29,7 +30,7 @@ type Pending = Vec<Option<Box<Description>>>;
 /// at the slots ahead to which jumps lead, and what falls through to the next instruction, if it `falls`.
 #[derive(Drop)]
 struct Pass {
-    kept: Vec<Option<Registers>>,
+    kept: KnownKinds,
     pending: Pending,
     current: Description,
     falls: bool,
@@ -99,7 +100,7 @@ impl Pass {
     {
         let slots = candidate.slots();
         Ok(Pass {
-            kept: Vec::with_capacity(alloc, slots as usize)?,
+            kept: KnownKinds::new(alloc, slots)?,
             pending: none_pending(alloc, slots)?,
             current: Description::start(),
             falls: true,
@@ -237,10 +238,10 @@ impl Pass {
     {
         self.arrive(slot);
         if !self.falls {
-            self.keep(None)?;
+            self.skip()?;
             return Ok(());
         }
-        self.keep(Some(self.current.registers))?;
+        self.keep()?;
         let successor = match candidate.flow_in_place(slot, &mut self.current) {
             Ok(successor) => successor,
             Err(number) => return Err(Refused { number, slot }),
@@ -251,15 +252,30 @@ impl Pass {
         Ok(())
     }
 
-    /// Keeps the kinds of the registers at the next slot.
-    fn keep(&mut self, registers: Option<Registers>) -> Result<(), Refused>
-        ensures kept { OnOk result (self.new.kept.items ≡ self.old.kept.items ++ registers ∷ []) }
+    /// Keeps the kinds of the registers at the next slot, which is reached.
+    fn keep(&mut self) -> Result<(), Refused>
+        requires { length self.old.kept < 4096 }
+        ensures kept { OnOk result (self.new.kept ≡ self.old.kept ++ Some self.old.current.registers ∷ []) }
         ensures pending { self.new.pending ≡ self.old.pending }
         ensures current { self.new.current ≡ self.old.current }
         ensures falls { self.new.falls ≡ self.old.falls }
         ensures memory { IfErr result (λ refused. refused ≡ out_of_memory) }
     {
-        match self.kept.push(registers) {
+        match self.kept.push(&self.current.registers) {
+            Ok(()) => Ok(()),
+            Err(_) => Err(Refused::OUT_OF_MEMORY),
+        }
+    }
+
+    /// Passes over the next slot, which isn't reached.
+    fn skip(&mut self) -> Result<(), Refused>
+        ensures kept { OnOk result (self.new.kept ≡ self.old.kept ++ None ∷ []) }
+        ensures pending { self.new.pending ≡ self.old.pending }
+        ensures current { self.new.current ≡ self.old.current }
+        ensures falls { self.new.falls ≡ self.old.falls }
+        ensures memory { IfErr result (λ refused. refused ≡ out_of_memory) }
+    {
+        match self.kept.push_unreached() {
             Ok(()) => Ok(()),
             Err(_) => Err(Refused::OUT_OF_MEMORY),
         }
@@ -277,7 +293,7 @@ impl Pass {
         if candidate.begins(slot) {
             self.decode_and_verify(alloc, candidate, slot)?;
         } else {
-            self.keep(None)?;
+            self.skip()?;
         }
         Ok(())
     }
@@ -285,11 +301,8 @@ impl Pass {
 
 /// The kinds of the registers at each slot of a text in which no slot breaks a rule, or else the refusal of
 /// the text. Want of memory is `OutOfMemory` at slot 0.
-pub(crate) fn kept_kinds(
-    alloc: Global,
-    candidate: &Candidate,
-) -> Result<Vec<Option<Registers>>, Refused>
-    ensures kept { IfOk result (λ kept. kept.items ≡ map kinds_in (tight_table candidate.now)) }
+pub(crate) fn kept_kinds(alloc: Global, candidate: &Candidate) -> Result<KnownKinds, Refused>
+    ensures kept { IfOk result (λ kept. kept ≡ map kinds_in (tight_table candidate.now)) }
     ensures clean { IfOk result (λ kept. IsCleanBefore candidate.now (tight_table candidate.now) (slots_of candidate.now.text)) }
     ensures flows { IfOk result (λ kept. FlowDescribed candidate.now (tight_table candidate.now) (slots_of candidate.now.text)) }
     ensures refused { IfErr result (λ refused. (refused ≡ out_of_memory) ⊎ IsRefusal candidate.now refused) }

@@ -11,8 +11,9 @@ ghost use Rattle.verifier.specs.Reserve.{reserve_from};
 ghost use Rattle.verifier.specs.Writes.{writes_from};
 
 use crate::candidate::Candidate;
+use crate::known::KnownKinds;
 use crate::reserve::reserves;
-use crate::table::{Registers, kept_kinds};
+use crate::table::kept_kinds;
 use crate::writes::last_writes;
 use bpf_decode::{Insn, Program};
 use host_types::limits::{MAX_CONTEXT, MAX_MAPS};
@@ -27,10 +28,10 @@ use verifier_kinds::Kind;
 #[derive(Drop)]
 pub struct Verified {
     candidate: Candidate,
-    kept: Vec<Option<Registers>>,
+    kept: Box<KnownKinds>,
     named: [bool; MAX_MAPS],
     reserves: Vec<u32>,
-    lasts: [u16; MAX_MAPS],
+    lasts: [u32; MAX_MAPS],
 }
 
 impl Model for Verified {
@@ -49,7 +50,7 @@ impl Model for Verified {
 
     ghost invariant = { λ v. record {
       verified : IsVerified (record { subject = v.candidate; table = tight_table v.candidate });
-      kept : v.kept.items ≡ map kinds_in (tight_table v.candidate);
+      kept : v.kept.value ≡ map kinds_in (tight_table v.candidate);
       named : AreNamed v.candidate.text (slots_of v.candidate.text) v.named;
       reserved : AreReserves (record { subject = v.candidate; table = tight_table v.candidate }) v.reserves.items;
       written : AreLastWrites (record { subject = v.candidate; table = tight_table v.candidate }) (slots_of v.candidate.text) v.lasts;
@@ -105,8 +106,7 @@ impl Verified {
         requires { register ≤ 10 }
         ensures { result ≡ kind_at self.now.table slot register }
     {
-        let known = self.kept.get(slot as usize)?.as_ref()?;
-        known[usize::from(register)]
+        self.kept.kind(slot, register)
     }
 
     /// How many frames the rest of a run may need from a slot on. Each slot from there to the end that is
@@ -130,7 +130,7 @@ impl Verified {
         requires { map < 8 }
         ensures { result ≡ writes_from self.now slot map }
     {
-        slot < u32::from(self.lasts[map as usize])
+        slot < self.lasts[map as usize]
     }
 
     /// The shapes of the maps that the program may use, by number: eight, of which each is there or
@@ -198,6 +198,9 @@ pub fn verify(
     let named = candidate.named_maps();
     let lasts = last_writes(&candidate, &kept);
     let Ok(reserves) = reserves(alloc, &candidate, &kept) else {
+        return Err(Refused::OUT_OF_MEMORY);
+    };
+    let Ok(kept) = Box::new(alloc, kept) else {
         return Err(Refused::OUT_OF_MEMORY);
     };
     Ok(Verified {

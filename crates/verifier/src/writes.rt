@@ -1,16 +1,15 @@
 //! Which maps the rest of a run may write, from each slot on.
 
-ghost use Rattle.std.specs.Prelude.{◌≡◌, ℕ, ◌<◌, map, slice_index_or, if◌then◌else◌, IfSome};
+ghost use Rattle.std.specs.Prelude.{◌≡◌, ℕ, ◌<◌, map, slice_index_or, None, if◌then◌else◌, IfSome};
 ghost use Rattle.bpf_decode.specs.Opcodes.{operation_of};
 ghost use Rattle.bpf_decode.specs.Text.{insn_at, slots_of, IsInstruction};
 ghost use Rattle.verifier.specs.Named.{is_map};
 ghost use Rattle.verifier.specs.Pass.{kinds_in};
-ghost use Rattle.verifier.specs.Reserve.{HasKindsAt};
 ghost use Rattle.verifier.specs.Table.{Table, described, tight_table};
 ghost use Rattle.verifier.specs.Writes.{store_map, update_map, call_map, map_by, AreLastWrites};
 
 use crate::candidate::Candidate;
-use crate::table::Registers;
+use crate::known::KnownKinds;
 use bpf_decode::Operation;
 use host_types::limits::MAX_MAPS;
 use host_types::{MapHelper, MapNo};
@@ -47,35 +46,26 @@ fn call_map(helper: Option<MapHelper>, name: Option<Kind>) -> Option<MapNo>
 }
 
 impl Candidate {
-    /// The map that the instruction at a slot that is reached writes, if it writes one.
-    fn reached_map(&self, slot: u32, kinds: &Registers) -> Option<MapNo>
-        requires { IsInstruction self.now.text slot }
-        ensures { (table : Table) → HasKindsAt table slot kinds.now
+    /// The map that the instruction at a slot writes; one that isn't reached writes none.
+    fn written_map(&self, slot: u32, kept: &KnownKinds) -> Option<MapNo>
+        requires { IfSome (slice_index_or kept.now slot None) (λ kinds. IsInstruction self.now.text slot) }
+        ensures { (table : Table) → kinds_in (described table slot) ≡ slice_index_or kept.now slot None
             → result ≡ map_by self.now table slot (operation_of (insn_at self.now.text slot).opcode) }
     {
+        if !kept.is_reached(slot) {
+            return None;
+        }
         let insn = self.insn(slot);
         match insn.operation() {
-            Operation::Store { .. } => store_map(kinds[usize::from(insn.dst)]),
-            Operation::Call => call_map(MapHelper::of(insn.immediate()), kinds[1]),
+            Operation::Store { .. } => store_map(kept.kind(slot, insn.dst)),
+            Operation::Call => call_map(MapHelper::of(insn.immediate()), kept.kind(slot, 1)),
             _ => None,
-        }
-    }
-
-    /// The map that the instruction at a slot writes; one that isn't reached writes none.
-    fn written_map(&self, slot: u32, known: &Option<Registers>) -> Option<MapNo>
-        requires { IfSome known.now (λ kinds. IsInstruction self.now.text slot) }
-        ensures { (table : Table) → kinds_in (described table slot) ≡ known.now
-            → result ≡ map_by self.now table slot (operation_of (insn_at self.now.text slot).opcode) }
-    {
-        match known {
-            Some(kinds) => self.reached_map(slot, kinds),
-            None => None,
         }
     }
 }
 
 /// Notes of a map that is written, if that is one of the numbers 0 to 7, the end up to which it is.
-fn note(lasts: &mut [u16; MAX_MAPS], written: Option<MapNo>, end: u16)
+fn note(lasts: &mut [u32; MAX_MAPS], written: Option<MapNo>, end: u32)
     ensures { (m : ℕ) → m < 8 → slice_index_or lasts.new m 0 ≡ (if is_map written m then end else slice_index_or lasts.old m 0) }
 {
     if let Some(map) = written {
@@ -86,15 +76,15 @@ fn note(lasts: &mut [u16; MAX_MAPS], written: Option<MapNo>, end: u16)
 }
 
 /// For each map one more than the last slot that writes it, and 0 where none does.
-pub(crate) fn last_writes(candidate: &Candidate, kept: &[Option<Registers>]) -> [u16; MAX_MAPS]
+pub(crate) fn last_writes(candidate: &Candidate, kept: &KnownKinds) -> [u32; MAX_MAPS]
     requires { kept.now ≡ map kinds_in (tight_table candidate.now) }
     ensures { AreLastWrites (record { subject = candidate.now; table = tight_table candidate.now }) (slots_of candidate.now.text) result }
 {
     let slots = candidate.slots();
     let mut lasts = [0; MAX_MAPS];
     for slot in 0..slots {
-        let written = candidate.written_map(slot, &kept[slot as usize]);
-        note(&mut lasts, written, (slot + 1) as u16);
+        let written = candidate.written_map(slot, kept);
+        note(&mut lasts, written, slot + 1);
     }
     lasts
 }

@@ -3,7 +3,7 @@ use Rattle.std.proofs.lemmas.List.{length-set}
 use Rattle.bpf_decode.specs.Text.{slots_of}
 use Rattle.verifier.specs.Table.{tight_table}
 use Rattle.verifier.specs.Verified.{Accepted}
-use Rattle.verifier.proofs.Reserves.{kept_at, kept_instruction, kept_whole, reserve_before, reserve_end, reserves_none, reserves_set, sum_fits, tight_cost}
+use Rattle.verifier.proofs.Reserves.{kept_at, kept_instruction, reserve_before, reserve_end, reserves_none, reserves_set, sum_fits, tight_cost}
 use Rattle.verifier.proofs.reserve.reserves.Goals as goal
 
 pub loop-slot-init : goal.loop-slot-init
@@ -16,11 +16,6 @@ loop-slot-init c =
       sum = sym (reserve_end v c.slots-slots.result (omega (arith, slots)));
       summed = reserves_none v c.in_ok-reserves.reserves.items c.slots-slots.result slots whole;
     }
-
-pub bounds-kept-slot : goal.bounds-kept-slot
-bounds-kept-slot c =
-    let whole = kept_whole c.args.candidate.now c.args.kept.now c.requires in
-    omega (arith, whole, c.slots-slots.ensures.number, c.loop-slot.auto.slot, c.loop-slot-test.true)
 
 pub cost-reserve-requires : goal.cost-reserve-requires
 cost-reserve-requires c =

@@ -1,4 +1,4 @@
-use Rattle.std.proofs.Common.{◌≡◌, ◌⊎◌, Result, Ok, Err, sym, subst}
+use Rattle.std.proofs.Common.{◌≡◌, ◌⊎◌, Result, Ok, Err, sym, subst, ◌∙◌}
 use Rattle.std.specs.Result.{IfErr, IsErrAnd}
 use Rattle.host_types.specs.declared.fault.Refused.{Refused}
 use Rattle.verifier.specs.Subject.{Subject}
@@ -10,7 +10,7 @@ use Rattle.verifier.proofs.verified.verify.Goals as goal
 pub invariant_of-result : goal.invariant_of-result
 invariant_of-result c = record {
   verified = passed_verified c.new-candidate.result (subst IsSubject c.candidate.view_is c.candidate.invariant) c.in_ok-kept.ensures.clean c.in_ok-kept.ensures.flows;
-  kept = c.in_ok-kept.ensures.kept;
+  kept = c.in-Ok-new.ensures.ok ∙ c.in_ok-kept.ensures.kept;
   named = c.named_maps-named.ensures;
   reserved = c.in-Ok.ensures;
   written = c.last_writes-lasts.ensures;

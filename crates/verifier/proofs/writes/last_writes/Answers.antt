@@ -2,7 +2,7 @@ use Rattle.std.proofs.Common.{replicate, arith}
 use Rattle.verifier_kinds.proofs.Descriptions.{get_or-one}
 use Rattle.verifier.specs.Table.{tight_table}
 use Rattle.verifier.specs.Verified.{Accepted}
-use Rattle.verifier.proofs.Reserves.{kept_at, kept_instruction, kept_whole}
+use Rattle.verifier.proofs.Reserves.{kept_at, kept_instruction}
 use Rattle.verifier.proofs.Written.{lasts_none, lasts_more, tight_map}
 use Rattle.verifier.proofs.writes.last_writes.Goals as goal
 
@@ -10,11 +10,6 @@ pub loop-slot-init : goal.loop-slot-init
 loop-slot-init c =
     let v : Accepted = record { subject = c.args.candidate.now; table = tight_table c.args.candidate.now } in
     lasts_none v (replicate 8 0) (λ m. get_or-one 8 m 0)
-
-pub bounds-kept-slot : goal.bounds-kept-slot
-bounds-kept-slot c =
-    let whole = kept_whole c.args.candidate.now c.args.kept.now c.requires in
-    omega (arith, whole, c.slots-slots.ensures.number, c.loop-slot.auto.slot-end, c.loop-slot-test.true)
 
 pub written_map-written-requires : goal.written_map-written-requires
 written_map-written-requires c =
