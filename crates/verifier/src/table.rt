@@ -118,6 +118,16 @@ impl Pass {
         let Some(known) = self.pending[slot as usize].take() else {
             return;
         };
+        self.join_pending(known);
+    }
+
+    /// Makes `current` what jumps led to a slot, joined with what falls there. At most slots nothing did: a function of its own, so that these have
+    /// no room for another description.
+    fn join_pending(&mut self, known: Box<Description>)
+        ensures kept { self.new.kept ≡ self.old.kept }
+        ensures pending { self.new.pending ≡ self.old.pending }
+        ensures known { falling self.new.falls self.new.current ≡ known_with_coming (Some known.value) (falling self.old.falls self.old.current) }
+    {
         self.current = if self.falls {
             known.join(&self.current)
         } else {
