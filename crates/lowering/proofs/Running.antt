@@ -14,7 +14,7 @@ use Rattle.interp.specs.Machine.{MachineState, Outcome, Next, Exits, start_state
 use Rattle.interp.specs.Runs.{Runs}
 use Rattle.loop_copies.specs.Slots.{falls_through, slot_numbered, slot_from, jump_by, jump_from}
 use Rattle.lowering.specs.Covering.{LeadAlike, IsCopy, IsInsertedJump, IsCovering}
-use Rattle.lowering.specs.Laws.{ComesTo, Ends, Fails, at_origin, Rewriting, EndsAlike, StatesHaveOrigins, FailuresHaveOrigins, FailuresAreKept, FaultlessnessIsKept}
+use Rattle.lowering.specs.Laws.{ComesTo, Ends, Fails, at_origin, Rewriting, EndsAreKept, StatesHaveOrigins, FailuresHaveOrigins, FailuresAreKept, FaultlessnessIsKept}
 use Rattle.lowering.proofs.Moved.{moved, IsSlotless, alu_slotless, load_slotless, load_immediate_slotless, store_slotless, call_slotless}
 use Rattle.lowering.proofs.Steps.{outcome_at, by, step_is, operation_here, same_operation, copy_steps}
 
@@ -237,7 +237,7 @@ ends_forth text lowered origins context maps number left covering (suc n) e =
     let found = has_copy text lowered origins context maps covering n e.0 e.1 in
     (suc found.run.0, (found.at, found.run.1, came_of_exit origins (step lowered found.at) number left (copy_step text lowered origins context maps e.0 found ∙ e.2)))
 
-pub ends_alike : EndsAlike IsCovering
+pub ends_alike : EndsAreKept IsCovering
 ends_alike text lowered origins covering context maps number left =
     (λ ends. ends_forth text lowered origins context maps number left covering ends.0 ends.1, λ ends. ends_back text lowered origins context maps number left covering ends.0 ends.1)
 

@@ -5,7 +5,7 @@ use Rattle.host_types.specs.Memory.{FlatMaps}
 use Rattle.bpf_decode.specs.Text.{IsInstruction}
 use Rattle.interp.specs.Machine.{MachineState}
 use Rattle.lowering.specs.Covering.{IsCopy, IsShortening, IsShorterCovering}
-use Rattle.lowering.specs.Laws.{ComesTo, Fails, at_origin, EndsAlike, StatesHaveOrigins, FailuresHaveOrigins, FailuresAreKept, FaultlessnessIsKept}
+use Rattle.lowering.specs.Laws.{ComesTo, Fails, at_origin, EndsAreKept, StatesHaveOrigins, FailuresHaveOrigins, FailuresAreKept, FaultlessnessIsKept}
 use Rattle.lowering.proofs.Moved.{moved}
 use Rattle.lowering.proofs.Running.{ends_alike, states_have_origins, failures_have_origins, failures_are_kept, fails_as_copy, HasCopy, has_copy, copy_fails, faultless_by}
 
@@ -20,7 +20,7 @@ state_origin : (text whole lowered far near origins context : List ℕ) (maps : 
 state_origin text whole lowered far near origins context maps s shortening found =
     same_origin text whole lowered far near origins found.at shortening found.here found.copy ∙ ap (at_origin origins) found.same
 
-pub shortened_ends_alike : EndsAlike IsShorterCovering
+pub shortened_ends_alike : EndsAreKept IsShorterCovering
 shortened_ends_alike text lowered origins (whole, far, near, shortening) context maps number left =
     let of_text = ends_alike text whole far shortening.covers context maps number left in
     let of_lowered = ends_alike lowered whole near shortening.shorter context maps number left in

@@ -30,8 +30,8 @@ abbrev pub Rewriting : Type 1
 Rewriting = List ℕ → List ℕ → List ℕ → Type 0
 
 -- a text that was rewritten ends as the original does
-abbrev pub EndsAlike : Rewriting → Type 0
-EndsAlike rewritten = (text lowered origins : List ℕ) → rewritten text lowered origins → EndAlike text lowered
+abbrev pub EndsAreKept : Rewriting → Type 0
+EndsAreKept rewritten = (text lowered origins : List ℕ) → rewritten text lowered origins → EndAlike text lowered
 
 -- each state to which a lowered text comes is one to which the original comes, at its origin
 abbrev pub StatesHaveOrigins : Rewriting → Type 0
