@@ -121,8 +121,8 @@ impl Pass {
         self.join_pending(known);
     }
 
-    /// Makes `current` what jumps led to a slot, joined with what falls there. At most slots nothing did: a function of its own, so that these have
-    /// no room for another description.
+    /// Joins what jumps led to a slot with what falls there. It is a function of its own since no jump leads to most slots: compiled code
+    /// clears room for another description only here.
     fn join_pending(&mut self, known: Box<Description>)
         ensures kept { self.new.kept ≡ self.old.kept }
         ensures pending { self.new.pending ≡ self.old.pending }
