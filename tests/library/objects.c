@@ -54,7 +54,7 @@ static void test_refused_files(void)
     check_refused(size, "tc", 7, BPF_HOST_BAD_CONTEXT, "refused 39 BadContext\n");
     check_refused(size, "tc", 264, BPF_HOST_BAD_CONTEXT, "refused 39 BadContext\n");
     check_refused(0, "", 7, BPF_HOST_BAD_CONTEXT, "refused 39 BadContext\n");
-    check_refused(0, "", 0, BPF_HOST_BAD_OBJECT, "this is no ELF file");
+    check_refused(0, "", 0, BPF_HOST_BAD_OBJECT, "this is no ELF file; compile C with `clang -g -O2 ");
     check_refused(size, "", 0, BPF_HOST_BAD_OBJECT, "section 2, byte 0: there are several functions, ");
     check_refused(size, "other", 0, BPF_HOST_BAD_OBJECT, "no section and no function is named `other`");
     check_refused(size, "\xff", 0, BPF_HOST_BAD_OBJECT, "the name is no UTF-8 text");

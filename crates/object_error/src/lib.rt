@@ -34,7 +34,7 @@ pub enum Cause {
     OutOfMemory(AllocError),
     #[error("the file has more than 16777216 bytes")]
     TooLong,
-    #[error("this is no ELF file")]
+    #[error("this is no ELF file; compile C with `clang -g -O2 -mcpu=v3 -target bpf -c`, without `-flto` or `-emit-llvm`")]
     NotElf,
     #[error("the file is for 32 bits; compile with `clang -target bpf -c`")]
     NotElf64,
@@ -50,7 +50,7 @@ pub enum Cause {
     TooManySections(u16),
     #[error("more than 65536 symbols")]
     TooManySymbols,
-    #[error("it ends outside of the file, or of its section")]
+    #[error("it ends outside of the file, or of its section; the file may be cut short")]
     Cut,
     #[error("no name of at most 255 bytes of UTF-8 stands here")]
     BadName,
