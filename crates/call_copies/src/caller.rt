@@ -26,7 +26,12 @@ pub(crate) fn with_copies(
     function: &Function<'_>,
     made: &[Option<Made>],
 ) -> Result<Made, NotInlined> {
-    let followed = Followed { function, made };
+    let called = function.called_by_slot(alloc)?;
+    let followed = Followed {
+        function,
+        called: called.as_slice(),
+        made,
+    };
     let frame = followed.frame(alloc)?;
     let caller = Caller {
         number,

@@ -81,10 +81,11 @@ impl Lowest {
     }
 }
 
-/// A function whose addresses are followed, and the functions that it may call.
+/// A function whose addresses are followed, which function each of its slots calls, and what those do.
 #[derive(Clone, Copy)]
 pub(crate) struct Followed<'a> {
     pub function: &'a Function<'a>,
+    pub called: &'a [Option<usize>],
     pub made: &'a [Option<Made>],
 }
 
@@ -185,10 +186,16 @@ impl Followed<'_> {
     /// What the function that is called at a slot does with the argument in a register.
     fn lent_at(&self, slot: usize, register: u8) -> Lent {
         let index = usize::from(register).saturating_sub(1);
-        match self.function.called_at(slot, self.made) {
+        match self.made_at(slot) {
             Some(called) => called.lent.get(index).copied().unwrap_or(Lent::Escapes),
             None => Lent::Escapes,
         }
+    }
+
+    /// The text that is called at a slot, if it is made.
+    fn made_at(&self, slot: usize) -> Option<&Made> {
+        let number = self.called.get(slot).copied()??;
+        self.made.get(number)?.as_ref()
     }
 
     /// The lowest address that the function called at a slot may return, of those that it is given.
@@ -196,8 +203,10 @@ impl Followed<'_> {
         let mut answered = NONE;
         for register in ARGUMENTS {
             let address = lowest.get(slot, register);
+            if address == NONE {
+                continue;
+            }
             if let Lent::Within { returned, .. } = self.lent_at(slot, register)
-                && address != NONE
                 && returned != NONE
             {
                 answered = answered.min(address.saturating_add(returned));

@@ -29,6 +29,25 @@ impl Function<'_> {
             _ => None,
         }
     }
+
+    /// Which function each slot calls.
+    pub(crate) fn called_by_slot(&self, alloc: Global) -> Result<Vec<Option<usize>>, NotInlined> {
+        let mut called = Vec::new(alloc);
+        for _slot in 0..self.text.len() / 8 {
+            called.push(None)?;
+        }
+        self.note_calls(called.as_mut_slice());
+        Ok(called)
+    }
+
+    /// Notes at each slot which function it calls.
+    fn note_calls(&self, called: &mut [Option<usize>]) {
+        for call in self.calls {
+            if let Some(noted) = called.get_mut(call.slot) {
+                *noted = Some(call.function);
+            }
+        }
+    }
 }
 
 /// A text without calls of functions, if it is made, with how much stack it uses, and what it does with each of its arguments.

@@ -23,7 +23,7 @@ pub enum Stop {
     TooLong,
     #[error("the stacks of functions that call each other have more than 512 bytes together")]
     StackSize,
-    #[error("an address of the stack is stored, or moved by a number that isn't constant, and functions are called; mark these static __attribute__((always_inline))")]
+    #[error("an address of the stack is stored, or moved in a loop, out of the stack or by a number that isn't constant, and functions are called; mark these static __attribute__((always_inline))")]
     StackAddress,
     #[error("registers can't be followed through the jumps back of a function; mark the functions that are called static __attribute__((always_inline))")]
     Tangled,

@@ -130,6 +130,8 @@ pub enum Cause {
     GlobalsSize(usize),
     #[error("an address stands in a global variable; only texts can name maps and variables")]
     RelocatedData,
+    #[error("a function is to run before the program, as a constructor, and none does; give variables initial values that are constants")]
+    Constructor,
 }
 
 impl Cause {

@@ -26,11 +26,11 @@ impl Function {
     }
 }
 
-/// Where functions are looked for: in one section, in all named by SEC, or in .text and those whose names begin with `.text.`, in which clang
-/// has what is `hot`, `cold` or given a section for each function.
+/// Where functions are looked for: in sections with one name, of which clang makes two where one function is to be retained; in all named by
+/// SEC; or in .text and those whose names begin with `.text.`, in which clang has what is `hot`, `cold` or given a section for each function.
 #[derive(Clone, Copy)]
-enum Among {
-    Section(usize),
+enum Among<'n> {
+    Named(&'n [u8]),
     Sections,
     Text,
 }
@@ -50,7 +50,7 @@ pub(crate) fn chosen(
     };
     if let Some(section) = object.named(name.as_bytes())? {
         if section.is_text() {
-            return in_section(alloc, object, symbols, &section);
+            return in_section(alloc, object, symbols, name.as_bytes(), &section);
         }
     }
     match by_name(object, symbols, name.as_bytes())? {
@@ -79,14 +79,15 @@ fn unchosen(
     }
 }
 
-/// The only function of a section, or the section itself where no symbol says what its functions are.
+/// The only function of sections with a name, or the first such section itself where no symbol says what its functions are.
 fn in_section(
     alloc: Global,
     object: &Object<'_>,
     symbols: &Symbols<'_>,
+    name: &[u8],
     section: &Section,
 ) -> Result<Function, ObjectError> {
-    match only(alloc, object, symbols, Among::Section(section.number))? {
+    match only(alloc, object, symbols, Among::Named(name))? {
         Some(symbol) => function_of(object, &symbol),
         None => Ok(Function {
             section: section.number,
@@ -101,7 +102,7 @@ fn only(
     alloc: Global,
     object: &Object<'_>,
     symbols: &Symbols<'_>,
-    among: Among,
+    among: Among<'_>,
 ) -> Result<Option<Symbol>, ObjectError> {
     match only_seen(alloc, object, symbols, among, true)? {
         Some(seen) => {
@@ -117,7 +118,7 @@ fn only_seen(
     alloc: Global,
     object: &Object<'_>,
     symbols: &Symbols<'_>,
-    among: Among,
+    among: Among<'_>,
     is_seen: bool,
 ) -> Result<Option<Symbol>, ObjectError> {
     let mut found = None;
@@ -139,7 +140,7 @@ fn refuse_static_beside(
     alloc: Global,
     object: &Object<'_>,
     symbols: &Symbols<'_>,
-    among: Among,
+    among: Among<'_>,
     seen: &Symbol,
 ) -> Result<(), ObjectError> {
     if !matches!(among, Among::Sections) {
@@ -170,7 +171,7 @@ fn several(
 }
 
 /// Whether a symbol is that of a function among some.
-fn is_among(object: &Object<'_>, symbol: &Symbol, among: Among) -> Result<bool, ObjectError> {
+fn is_among(object: &Object<'_>, symbol: &Symbol, among: Among<'_>) -> Result<bool, ObjectError> {
     if !symbol.is_function() || symbol.is_undefined() {
         return Ok(false);
     }
@@ -179,7 +180,7 @@ fn is_among(object: &Object<'_>, symbol: &Symbol, among: Among) -> Result<bool, 
         return Ok(false);
     }
     match among {
-        Among::Section(number) => Ok(number == section.number),
+        Among::Named(name) => object.is_named(&section, name),
         Among::Sections => Ok(!is_named(object.name(&section)?, b".text")),
         Among::Text => Ok(is_named(object.name(&section)?, b".text")),
     }

@@ -76,17 +76,20 @@ pub(crate) fn with_line(
 }
 
 /// The line of which the instruction at a byte of a section was made, if the file says it: that of the last record of the section at
-/// the byte or before it.
+/// the byte or before it. It isn't known where another section has the same name.
 fn line_at<'a>(bytes: &'a [u8], location: Location) -> Result<Option<SourceLine<'a>>, ObjectError> {
     if location.section == 0 {
         return Ok(None);
     }
     let object = Object::read(bytes)?;
-    let section = object.section(location.section)?;
+    let name = object.name(&object.section(location.section)?)?;
+    if object.named_once(name)?.is_none() {
+        return Ok(None);
+    }
     let Some(source) = Records::of(object)? else {
         return Ok(None);
     };
-    let found = source.last_at(object.name(&section)?, location.offset);
+    let found = source.last_at(name, location.offset);
     match found.and_then(|record| line_in(&source, record)) {
         Some((_, line)) => Ok(Some(line)),
         None => Ok(None),
@@ -233,7 +236,8 @@ fn add_sections<'a>(
         }
         left -= count;
         if let Some(name) = front_at(source.names, name) {
-            if let Some(section) = source.object.named(name)? {
+            // Records name their section: where several have its name, whose lines these are isn't known.
+            if let Some(section) = source.object.named_once(name)? {
                 add_records(source, &section, records, size, texts, found)?;
             }
         }

@@ -40,6 +40,10 @@ pub(crate) const NOBITS: u32 = 8;
 
 pub(crate) const REL: u32 = 9;
 
+const INIT_ARRAY: u32 = 14;
+
+const PREINIT_ARRAY: u32 = 16;
+
 /// Bits of sh_flags: the section has bytes when the program runs, and has instructions.
 const ALLOC: u64 = 2;
 
@@ -205,6 +209,21 @@ impl<'a> Object<'a> {
         Ok(None)
     }
 
+    /// The only section with a name: none where there are several.
+    pub fn named_once(&self, name: &[u8]) -> Result<Option<Section>, ObjectError> {
+        let mut found = None;
+        for number in 0..self.sections {
+            let section = self.section(number)?;
+            if self.is_named(&section, name)? {
+                if found.is_some() {
+                    return Ok(None);
+                }
+                found = Some(section);
+            }
+        }
+        Ok(found)
+    }
+
     /// The symbols of the file.
     pub fn symbols(&self) -> Result<Symbols<'a>, ObjectError> {
         for number in 0..self.sections {
@@ -232,6 +251,11 @@ impl<'a> Object<'a> {
 }
 
 impl Section {
+    /// Whether it lists functions that are to run before any other: SHT_INIT_ARRAY, SHT_PREINIT_ARRAY.
+    pub fn is_of_constructors(&self) -> bool {
+        matches!(self.kind, INIT_ARRAY | PREINIT_ARRAY) && self.size > 0
+    }
+
     /// Whether it has instructions.
     pub fn is_text(&self) -> bool {
         self.kind == PROGBITS && self.flags & EXECINSTR != 0

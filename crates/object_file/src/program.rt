@@ -48,6 +48,7 @@ fn program_in(alloc: Global, bytes: &[u8], name: Option<&str>) -> Result<Program
 {
     let object = Object::read(bytes)?;
     refuse_core(&object)?;
+    refuse_constructors(&object)?;
     let symbols = object.symbols()?;
     let maps = maps_of(alloc, &object, &symbols)?;
     let function = chosen(alloc, &object, &symbols, name)?;
@@ -102,6 +103,16 @@ fn maps_of(alloc: Global, object: &Object<'_>, symbols: &Symbols<'_>) -> Result<
     add_legacy(alloc, object, symbols, &mut maps)?;
     add_globals(alloc, object, &mut maps)?;
     Ok(maps)
+}
+
+/// Refuses functions that are to run before the program: nothing runs them.
+fn refuse_constructors(object: &Object<'_>) -> Result<(), ObjectError> {
+    for number in 0..object.sections {
+        if object.section(number)?.is_of_constructors() {
+            return Err(ObjectError::at(number, 0, Cause::Constructor));
+        }
+    }
+    Ok(())
 }
 
 /// Refuses CO-RE relocations, which a section .BTF.ext has.

@@ -1,4 +1,4 @@
-/* refused: an address of the stack is stored, or moved by a number that isn't constant, and functions are called; mark these static __attribute__((always_inline)) */
+/* refused: an address of the stack is stored, or moved in a loop, out of the stack or by a number that isn't constant, and functions are called; mark these static __attribute__((always_inline)) */
 #include "bpf_helpers.h"
 
 struct request {
