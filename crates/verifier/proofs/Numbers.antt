@@ -1,11 +1,11 @@
 -- Kinds keep their numbers while others are added.
-use Rattle.std.proofs.Common.{◌≡◌, ℕ, zero, suc, ◌+◌, ◌*◌, ◌<◌, ◌≤◌, List, [], ◌∷◌, ◌++◌, length, map, get_or, slice_set, Option, Some, None, IfSome, refl, sym, ap, ◌∙◌, arith}
+use Rattle.std.proofs.Common.{◌≡◌, ℕ, ◌+◌, ◌<◌, List, [], ◌∷◌, ◌++◌, length, map, slice_set, Option, Some, None, IfSome, refl, sym, ap, ◌∙◌, arith}
 use Rattle.std.specs.Prelude.{option_map, All, slice_index, slice_index_or}
-use Rattle.std.proofs.lemmas.List.{ext_get_or, get_or-map, length-map, length-append, map-append}
+use Rattle.std.proofs.lemmas.List.{ext_get_or, get_or-map, length-map, map-append}
 use Rattle.std.proofs.Math.Seq.{set-append_seam}
 use Rattle.std.proofs.lemmas.List.Elements.{All-head, All-tail}
 use Rattle.verifier_kinds.specs.declared.kind.Kind.{Kind}
-use Rattle.verifier.specs.Known.{Kept, kinds_numbered, kept_in, AreNumbers, KeepsKinds, HasRows}
+use Rattle.verifier.specs.Known.{kinds_numbered, kept_in, AreNumbers, KeepsKinds}
 
 -- numbers of kinds that are those of the registers, one by one
 pub numbered_by_index : (kinds : List (Option Kind)) (row : List ℕ) (registers : List (Option Kind)) → length row ≡ length registers

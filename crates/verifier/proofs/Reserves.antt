@@ -1,7 +1,7 @@
 -- What the rest of a program may need.
 use Rattle.std.proofs.Common.{◌≡◌, ℕ, zero, suc, ◌+◌, ◌-◌, ◌*◌, ◌/◌, ◌%◌, ◌<◌, ◌≤◌, ◌==◌, Bool, true, false, if◌then◌else◌, List, length, map, get_or, set, IfSome, Option, Some, None, option_map, unwrap_or, refl, inl, inr, sym, ap, subst, ◌∙◌, arith, add-one}
 use Rattle.std.proofs.lemmas.Bool.{cases_lt}
-use Rattle.std.proofs.lemmas.List.{get_or_past, get_or-set_same, get_or-set_other, length-map}
+use Rattle.std.proofs.lemmas.List.{get_or_past, get_or-set_same, get_or-set_other}
 use Rattle.std.proofs.Math.ListN.{get_or-map}
 use Rattle.host_types.specs.declared.helper.MapHelper.{MapHelper}
 use Rattle.host_types.specs.declared.helper.MapHelper.TheVariants.{Update}
@@ -24,7 +24,7 @@ use Rattle.verifier.specs.Known.{Kept}
 use Rattle.verifier.specs.Pass.{kinds_in}
 use Rattle.verifier.specs.Verified.{Accepted, kind_at}
 use Rattle.verifier.specs.Reserve.{store_cost, update_cost, call_cost, cost_by, cost_at, costs_from, reserve_from}
-use Rattle.verifier.proofs.Tight.{length-tight, tight_is_tight}
+use Rattle.verifier.proofs.Tight.{tight_is_tight}
 use Rattle.verifier.proofs.Lawful.{first_instruction, described_instruction}
 
 -- none of the costs is above 2

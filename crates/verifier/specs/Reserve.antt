@@ -1,6 +1,6 @@
 -- How many frames the rest of a run may need: each store through a pointer to a map's value and each
 -- update may break pages that share frames (this project's own rule).
-use Rattle.std.specs.Prelude.{◌≡◌, ℕ, zero, suc, ◌+◌, ◌-◌, List, slice_index_or, Option, Some, None, option_map, unwrap_or}
+use Rattle.std.specs.Prelude.{◌≡◌, ℕ, zero, suc, ◌+◌, ◌-◌, List, slice_index_or, Option, Some, option_map, unwrap_or}
 use Rattle.host_types.specs.declared.helper.MapHelper.{MapHelper}
 use Rattle.host_types.specs.declared.helper.MapHelper.TheVariants.{Update}
 use Rattle.host_types.specs.Helpers.{helper_of, update_charge}

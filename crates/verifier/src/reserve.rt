@@ -1,9 +1,9 @@
 //! How many frames the rest of a run may need, from each slot on.
 
-ghost use Rattle.std.specs.Prelude.{◌≡◌, ◌+◌, ◌≤◌, map, slice_index_or, None, IfOk, IfSome, option_map, unwrap_or};
+ghost use Rattle.std.specs.Prelude.{◌≡◌, ◌+◌, map, slice_index_or, None, IfOk, IfSome, option_map, unwrap_or};
 ghost use Rattle.host_types.specs.Helpers.{update_charge};
 ghost use Rattle.bpf_decode.specs.Opcodes.{operation_of};
-ghost use Rattle.bpf_decode.specs.Text.{insn_at, slots_of, IsInstruction};
+ghost use Rattle.bpf_decode.specs.Text.{insn_at, IsInstruction};
 ghost use Rattle.verifier_kinds.specs.Kinds.{shape_at};
 ghost use Rattle.verifier.specs.Table.{Table, described, tight_table};
 ghost use Rattle.verifier.specs.Pass.{kinds_in};

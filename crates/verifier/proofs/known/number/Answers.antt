@@ -1,4 +1,4 @@
-use Rattle.std.proofs.Common.{◌≡◌, ◌≢◌, ℕ, ◌+◌, ◌<◌, None, length, ap, ◌∙◌, arith, rules, below_more}
+use Rattle.std.proofs.Common.{◌≡◌, ◌≢◌, ℕ, ◌<◌, None, length, ap, ◌∙◌, arith, rules, below_more}
 use Rattle.std.specs.Prelude.{slice_index, slice_index_or}
 use Rattle.verifier.proofs.Numbers.{numbered_by_index}
 use Rattle.verifier.proofs.known.number.Goals as goal
