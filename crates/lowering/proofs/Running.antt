@@ -13,7 +13,7 @@ use Rattle.insn_alu.specs.Comparisons.{holds}
 use Rattle.interp.specs.Machine.{MachineState, Outcome, Next, Exits, start_state, register, operand, fallen, at_slot, jumped, step_alu, step_load, step_store, step_load_immediate, step_call, step_branch, step_exit, step_by, step}
 use Rattle.interp.specs.Runs.{Runs}
 use Rattle.loop_copies.specs.Slots.{falls_through, slot_numbered, slot_from, jump_by, jump_from}
-use Rattle.lowering.specs.Covering.{LeadAlike, IsCopy, IsInsertedJump, IsCovering}
+use Rattle.lowering.specs.Covering.{LeadAlike, IsExactCopy, IsNegatedCopy, IsCopy, IsInsertedJump, IsCovering}
 use Rattle.lowering.specs.Laws.{ComesTo, Ends, Fails, at_origin, Rewriting, EndsAreKept, StatesHaveOrigins, FailuresHaveOrigins, FailuresAreKept, FaultlessnessIsKept}
 use Rattle.lowering.proofs.Moved.{moved, IsSlotless, alu_slotless, load_slotless, load_immediate_slotless, store_slotless, call_slotless}
 use Rattle.lowering.proofs.Steps.{outcome_at, by, step_is, operation_here, same_operation, copy_steps}
@@ -78,9 +78,9 @@ lands_at lowered origins (Some there) None at alike e = absurd alike
 lands_at lowered origins (Some there) (Some to) at alike e = let is : there ≡ at = cc in subst (IsInstruction lowered) is alike.instruction
 
 -- a copy leads to an instruction
-copy_leads : (text lowered origins : List ℕ) (o : ℕ) (s t : MachineState) → IsInstruction lowered s.slot → IsCopy text lowered origins s.slot o → step lowered s ≡ Some (Next t) → IsInstruction lowered t.slot
+exact_copy_leads : (text lowered origins : List ℕ) (o : ℕ) (s t : MachineState) → IsInstruction lowered s.slot → IsExactCopy text lowered origins s.slot o → step lowered s ≡ Some (Next t) → IsInstruction lowered t.slot
 unfolding jump_from
-copy_leads text lowered origins o s t here copy e =
+exact_copy_leads text lowered origins o s t here copy e =
     let own = operation_of (insn_at lowered s.slot).opcode in
     let same : own ≡ operation_of (insn_at text o).opcode = same_operation (insn_at text o) (insn_at lowered s.slot) copy.same in
     let edge = leads_to lowered s t own (sym (step_is lowered s own (operation_here lowered s.slot here)) ∙ e) in
@@ -88,6 +88,21 @@ copy_leads text lowered origins o s t here copy e =
       | inl fall ↦ subst (IsInstruction lowered) (sym fall.1) (copy.falls (ap falls_through (sym same) ∙ fall.0)).instruction
       | inr jump ↦ lands_at lowered origins (jump_from lowered s.slot) (jump_from text o) t.slot copy.jumps jump
     ]
+
+negated_copy_leads : (text lowered origins : List ℕ) (o : ℕ) (s t : MachineState) → IsInstruction lowered s.slot → IsNegatedCopy text lowered origins s.slot o → step lowered s ≡ Some (Next t) → IsInstruction lowered t.slot
+unfolding jump_from
+negated_copy_leads text lowered origins o s t here copy e =
+    let own = operation_of (insn_at lowered s.slot).opcode in
+    let edge = leads_to lowered s t own (sym (step_is lowered s own (operation_here lowered s.slot here)) ∙ e) in
+    elim edge [
+      | inl fall ↦ subst (IsInstruction lowered) (sym fall.1) (lands_at lowered origins (Some (s.slot + width_at lowered s.slot)) (jump_from text o) (s.slot + width_at lowered s.slot) copy.falls refl)
+      | inr jump ↦ lands_at lowered origins (jump_from lowered s.slot) (Some (o + width_at text o)) t.slot copy.jumps jump
+    ]
+
+copy_leads : (text lowered origins : List ℕ) (o : ℕ) (s t : MachineState) → IsInstruction lowered s.slot → IsCopy text lowered origins s.slot o → step lowered s ≡ Some (Next t) → IsInstruction lowered t.slot
+unfolding IsCopy
+copy_leads text lowered origins o s t here (inl copy) = exact_copy_leads text lowered origins o s t here copy
+copy_leads text lowered origins o s t here (inr copy) = negated_copy_leads text lowered origins o s t here copy
 
 at_slot_some : (s : MachineState) (to : ℤ) (slot : ℕ) → slot_numbered to ≡ Some slot → at_slot s to ≡ Some (Next (moved slot s))
 at_slot_some s (pos to) slot e = ap (λ (x : Option ℕ). option_map (λ at. Next (moved at s)) x) e

@@ -1,5 +1,5 @@
 -- Runs of a text without some of the jumps of one that covers the original.
-use Rattle.std.specs.Prelude.{◌≡◌, ℕ, List, slice_index, None}
+use Rattle.std.specs.Prelude.{◌≡◌, ℕ, List, slice_index}
 use Rattle.std.proofs.Common.{sym, ap, subst, ◌∙◌}
 use Rattle.host_types.specs.Memory.{FlatMaps}
 use Rattle.bpf_decode.specs.Text.{IsInstruction}

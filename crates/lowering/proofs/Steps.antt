@@ -1,6 +1,6 @@
 -- A copy steps as the original does at its origin.
-use Rattle.std.specs.Prelude.{◌≡◌, ℕ, ◌+◌, nat_lt, ℤ, pos, negsuc, ◌+ℤ◌, Bool, true, false, if◌then◌else◌, List, slice_index, Option, Some, None, option_map}
-use Rattle.std.proofs.Common.{refl, sym, ap, ◌∙◌, arith}
+use Rattle.std.specs.Prelude.{◌≡◌, ℕ, ◌+◌, ◌==◌, nat_lt, nat_le, int_lt, int_le, ℤ, pos, negsuc, ◌+ℤ◌, Bool, true, false, not, if◌then◌else◌, List, slice_index, Option, Some, None, option_map}
+use Rattle.std.proofs.Common.{inl, inr, refl, sym, ap, ◌∙◌, arith}
 use Rattle.std.proofs.lemmas.Bool.Decides.{nat_tests}
 use Rattle.host_types.specs.Memory.{◌>>=◌}
 use Rattle.bpf_decode.specs.declared.insn.Insn.{Insn}
@@ -8,15 +8,17 @@ use Rattle.bpf_decode.specs.declared.operation.Source.{Source}
 use Rattle.bpf_decode.specs.declared.operation.Source.TheVariants.{Immediate, Register}
 use Rattle.bpf_decode.specs.declared.operation.Width.{Width}
 use Rattle.bpf_decode.specs.declared.operation.Comparison.{Comparison}
+use Rattle.bpf_decode.specs.declared.operation.Comparison.TheVariants.{Equal, NotEqual, Greater, GreaterOrEqual, Less, LessOrEqual, AnyBit, SignedGreater, SignedGreaterOrEqual, SignedLess, SignedLessOrEqual}
 use Rattle.bpf_decode.specs.declared.operation.Distance.TheVariants.{Offset, Imm}
 use Rattle.bpf_decode.specs.declared.operation.Operation.{Operation}
 use Rattle.bpf_decode.specs.declared.operation.Operation.TheVariants.{Alu, Load, Store, LoadImmediate, Jump, Branch, Call, Exit}
 use Rattle.bpf_decode.specs.Opcodes.{operation_of, distance_of, sign_extended}
 use Rattle.bpf_decode.specs.Text.{insn_at, slots_of, width_at, IsInstruction}
-use Rattle.insn_alu.specs.Comparisons.{holds}
+use Rattle.insn_alu.specs.Arithmetic.{low, signed}
+use Rattle.insn_alu.specs.Comparisons.{compared, holds}
 use Rattle.interp.specs.Machine.{MachineState, Outcome, Next, Exits, register, operand, fallen, at_slot, jumped, step_alu, step_load, step_store, step_load_immediate, step_call, step_branch, step_exit, operation_at, step_by, step}
 use Rattle.loop_copies.specs.Slots.{falls_through, slot_numbered, slot_from, jump_by, jump_from}
-use Rattle.lowering.specs.Covering.{without_distance, undirected, LeadAlike, IsCopy}
+use Rattle.lowering.specs.Covering.{without_distance, undirected, negation, LeadAlike, IsExactCopy, IsNegatedCopy, IsCopy}
 use Rattle.lowering.specs.Laws.{at_origin}
 use Rattle.lowering.proofs.Moved.{moved, then_alike, then_same, IsSlotless, alu_slotless, load_slotless, load_immediate_slotless, store_slotless, call_slotless}
 
@@ -69,6 +71,66 @@ branch_alike text lowered origins o s comparison width source insn copy dst src 
     let edges : (a b : ℕ) → (if holds comparison width a b then jumped text insn.offset (moved o s) else Some (fallen text (moved o s)))
     ≡ option_map (outcome_at origins) (if holds comparison width a b then jumped lowered copy.offset s else Some (fallen lowered s))
     = λ a b. edge_alike origins (holds comparison width a b) _ _ _ _ (lands_alike origins o s there to jump) (ap (λ (slot : ℕ). Next (record s { slot = slot })) fall) in
+    let second = operand_alike source insn copy o s src imm in
+    let first : register s insn.dst ≡ register s copy.dst = ap (λ (i : ℕ). register s i) (sym dst) in
+    then_same (outcome_at origins) (register s insn.dst) (register s copy.dst) _ _ first
+    (λ a. then_same (outcome_at origins) (operand source insn (moved o s)) (operand source copy s) _ _ second (λ b. edges a b))
+
+-- a comparison and its negation
+twice_not : (a : Bool) → a ≡ not (not a)
+twice_not true = refl
+twice_not false = refl
+
+nat_below : (a b : ℕ) → nat_lt a b ≡ not (nat_le b a)
+nat_below a b = grind (arith, nat_tests)
+
+int_below : (a b : ℤ) → int_lt a b ≡ not (int_le b a)
+int_below (pos a) (pos b) = nat_below a b
+int_below (pos a) (negsuc b) = refl
+int_below (negsuc a) (pos b) = refl
+int_below (negsuc a) (negsuc b) = nat_below b a
+
+pub compared_negated : (comparison other : Comparison) (width : Width) (a b : ℕ) → negation comparison ≡ Some other → compared other width a b ≡ not (compared comparison width a b)
+unfolding negation
+compared_negated Equal other width a b e = let is : NotEqual ≡ other = cc in rw (sym is) refl
+compared_negated NotEqual other width a b e = let is : Equal ≡ other = cc in rw (sym is) (twice_not (a == b))
+compared_negated Greater other width a b e = let is : LessOrEqual ≡ other = cc in rw (sym is) (grind (arith, nat_tests))
+compared_negated GreaterOrEqual other width a b e = let is : Less ≡ other = cc in rw (sym is) (nat_below a b)
+compared_negated Less other width a b e = let is : GreaterOrEqual ≡ other = cc in rw (sym is) (grind (arith, nat_tests))
+compared_negated LessOrEqual other width a b e = let is : Greater ≡ other = cc in rw (sym is) (nat_below b a)
+compared_negated AnyBit other width a b e = absurd (cc)
+compared_negated SignedGreater other width a b e =
+    let is : SignedLessOrEqual ≡ other = cc in
+    rw (sym is) (twice_not (int_le (signed width a) (signed width b)) ∙ ap not (sym (int_below (signed width b) (signed width a))))
+compared_negated SignedGreaterOrEqual other width a b e = let is : SignedLess ≡ other = cc in rw (sym is) (int_below (signed width a) (signed width b))
+compared_negated SignedLess other width a b e =
+    let is : SignedGreaterOrEqual ≡ other = cc in
+    rw (sym is) (twice_not (int_le (signed width b) (signed width a)) ∙ ap not (sym (int_below (signed width a) (signed width b))))
+compared_negated SignedLessOrEqual other width a b e = let is : SignedGreater ≡ other = cc in rw (sym is) (int_below (signed width b) (signed width a))
+
+holds_negated : (comparison other : Comparison) (width : Width) (a b : ℕ) → negation comparison ≡ Some other → holds other width a b ≡ not (holds comparison width a b)
+unfolding holds
+holds_negated comparison other width a b e = compared_negated comparison other width (low width a) (low width b) e
+
+edge_negated : (origins : List ℕ) (test : Bool) (x y : Option Outcome) (u v : Outcome) → Some u ≡ option_map (outcome_at origins) y → x ≡ Some (outcome_at origins v)
+    → (if not test then x else Some u) ≡ option_map (outcome_at origins) (if test then y else Some v)
+edge_negated origins true x y u v jump fall = jump
+edge_negated origins false x y u v jump fall = fall
+
+-- a conditional jump and its negation lead to alike slots
+branch_negated : (text lowered origins : List ℕ) (o : ℕ) (s : MachineState) (comparison other : Comparison) (width : Width) (source : Source) (insn copy : Insn)
+    → negation comparison ≡ Some other → copy.dst ≡ insn.dst → copy.src ≡ insn.src → copy.imm ≡ insn.imm
+    → Some (slice_index origins (s.slot + width_at lowered s.slot)) ≡ slot_from text o insn.offset
+    → option_map (slice_index origins) (slot_from lowered s.slot copy.offset) ≡ Some (o + width_at text o)
+    → step_branch text other width source insn (moved o s) ≡ option_map (outcome_at origins) (step_branch lowered comparison width source copy s)
+unfolding step_branch
+branch_negated text lowered origins o s comparison other width source insn copy negates dst src imm fall jump =
+    let there = pos (s.slot + width_at lowered s.slot) +ℤ copy.offset in
+    let to = pos (o + width_at text o) +ℤ insn.offset in
+    let edges : (a b : ℕ) → (if holds other width a b then jumped text insn.offset (moved o s) else Some (fallen text (moved o s)))
+    ≡ option_map (outcome_at origins) (if holds comparison width a b then jumped lowered copy.offset s else Some (fallen lowered s))
+    = λ a b. ap (λ (test : Bool). if test then jumped text insn.offset (moved o s) else Some (fallen text (moved o s))) (holds_negated comparison other width a b negates)
+    ∙ edge_negated origins (holds comparison width a b) _ _ _ _ (lands_alike origins o s there (pos (o + width_at text o)) jump) (lands_alike origins o s (pos (s.slot + width_at lowered s.slot)) to fall) in
     let second = operand_alike source insn copy o s src imm in
     let first : register s insn.dst ≡ register s copy.dst = ap (λ (i : ℕ). register s i) (sym dst) in
     then_same (outcome_at origins) (register s insn.dst) (register s copy.dst) _ _ first
@@ -145,11 +207,11 @@ origins_alike lowered origins None (Some to) alike = absurd alike
 origins_alike lowered origins (Some there) None alike = absurd alike
 origins_alike lowered origins (Some there) (Some to) alike = ap Some alike.origin
 
--- a copy steps as the original does
-pub copy_steps : (text lowered origins : List ℕ) (o : ℕ) (s : MachineState) → IsInstruction lowered s.slot → IsCopy text lowered origins s.slot o
+-- an exact copy steps as the original does
+exact_copy_steps : (text lowered origins : List ℕ) (o : ℕ) (s : MachineState) → IsInstruction lowered s.slot → IsExactCopy text lowered origins s.slot o
     → step text (moved o s) ≡ option_map (outcome_at origins) (step lowered s)
 unfolding undirected jump_from
-copy_steps text lowered origins o s here copy =
+exact_copy_steps text lowered origins o s here copy =
     let operation = operation_of (insn_at text o).opcode in
     let operations : operation_of (insn_at lowered s.slot).opcode ≡ operation = same_operation (insn_at text o) (insn_at lowered s.slot) copy.same in
     let same : without_distance operation (insn_at lowered s.slot) ≡ without_distance operation (insn_at text o)
@@ -159,3 +221,25 @@ copy_steps text lowered origins o s here copy =
     step_is text (moved o s) operation (operation_here text o copy.instruction)
     ∙ steps_by text lowered origins o s operation same (λ falls. (copy.falls falls).origin) jump
     ∙ ap (option_map (outcome_at origins)) (sym (step_is lowered s operation (operation_here lowered s.slot here ∙ operations)))
+
+-- a negated copy steps as the original does
+negated_copy_steps : (text lowered origins : List ℕ) (o : ℕ) (s : MachineState) → IsInstruction lowered s.slot → IsNegatedCopy text lowered origins s.slot o
+    → step text (moved o s) ≡ option_map (outcome_at origins) (step lowered s)
+unfolding jump_from step_by
+negated_copy_steps text lowered origins o s here copy =
+    let two = copy.negates in
+    let fall : Some (slice_index origins (s.slot + width_at lowered s.slot)) ≡ slot_from text o (insn_at text o).offset
+    = origins_alike lowered origins (Some (s.slot + width_at lowered s.slot)) (jump_from text o) copy.falls ∙ ap (jump_by text o) two.other_is in
+    let jump : option_map (slice_index origins) (slot_from lowered s.slot (insn_at lowered s.slot).offset) ≡ Some (o + width_at text o)
+    = ap (λ (z : Option Operation). option_map (slice_index origins) (jump_by lowered s.slot z)) (sym two.is) ∙ origins_alike lowered origins (jump_from lowered s.slot) (Some (o + width_at text o)) copy.jumps in
+    step_is text (moved o s) (Some (Branch two.negated two.width two.source)) (operation_here text o copy.instruction ∙ two.other_is)
+    ∙ branch_negated text lowered origins o s two.comparison two.negated two.width two.source (insn_at text o) (insn_at lowered s.slot) two.negation
+    (ap (λ (insn : Insn). insn.dst) copy.same) (ap (λ (insn : Insn). insn.src) copy.same) (ap (λ (insn : Insn). insn.imm) copy.same) fall jump
+    ∙ ap (option_map (outcome_at origins)) (sym (step_is lowered s (Some (Branch two.comparison two.width two.source)) (operation_here lowered s.slot here ∙ two.is)))
+
+-- a copy steps as the original does
+pub copy_steps : (text lowered origins : List ℕ) (o : ℕ) (s : MachineState) → IsInstruction lowered s.slot → IsCopy text lowered origins s.slot o
+    → step text (moved o s) ≡ option_map (outcome_at origins) (step lowered s)
+unfolding IsCopy
+copy_steps text lowered origins o s here (inl copy) = exact_copy_steps text lowered origins o s here copy
+copy_steps text lowered origins o s here (inr copy) = negated_copy_steps text lowered origins o s here copy

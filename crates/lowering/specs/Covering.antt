@@ -1,10 +1,14 @@
 -- Lowered texts: each instruction is a copy of one of an original text, or a jump that was inserted.
 use Rattle.std.specs.Prelude.{◌≡◌, ℕ, ◌+◌, pos, true, ◌⊎◌, List, length, slice_index, Option, Some, None}
 use Rattle.bpf_decode.specs.declared.insn.Insn.{Insn}
+use Rattle.bpf_decode.specs.declared.operation.Comparison.{Comparison}
+use Rattle.bpf_decode.specs.declared.operation.Comparison.TheVariants.{Equal, NotEqual, Greater, GreaterOrEqual, Less, LessOrEqual, AnyBit, SignedGreater, SignedGreaterOrEqual, SignedLess, SignedLessOrEqual}
 use Rattle.bpf_decode.specs.declared.operation.Distance.{Distance}
 use Rattle.bpf_decode.specs.declared.operation.Distance.TheVariants.{Offset, Imm}
 use Rattle.bpf_decode.specs.declared.operation.Operation.{Operation}
 use Rattle.bpf_decode.specs.declared.operation.Operation.TheVariants.{Jump, Branch}
+use Rattle.bpf_decode.specs.declared.operation.Source.{Source}
+use Rattle.bpf_decode.specs.declared.operation.Width.{Width}
 use Rattle.bpf_decode.specs.Opcodes.{operation_of}
 use Rattle.bpf_decode.specs.Text.{insn_at, slots_of, width_at, IsInstruction}
 use Rattle.loop_copies.specs.Slots.{falls_through, jump_from}
@@ -32,14 +36,56 @@ LeadAlike lowered origins None None = Unit {0}
 LeadAlike lowered origins (Some there) (Some to) = HasOrigin lowered origins there to
 LeadAlike lowered origins there to = ⊥
 
--- The instruction of a lowered text is a copy of the original's at a slot: it differs at most in the distance of
--- its jump, and wherever the original goes on, it goes on to an instruction that stands for that slot.
-pub record IsCopy (text lowered origins : List ℕ) (at slot : ℕ) : Type 0 where
+-- The instruction of a lowered text is an exact copy of the original's at a slot: it differs at most in the distance
+-- of its jump, and wherever the original goes on, it goes on to an instruction that stands for that slot.
+pub record IsExactCopy (text lowered origins : List ℕ) (at slot : ℕ) : Type 0 where
   pub instruction : IsInstruction text slot
   pub same : undirected (insn_at lowered at) ≡ undirected (insn_at text slot)
   pub falls : falls_through (operation_of (insn_at text slot).opcode) ≡ true
       → HasOrigin lowered origins (at + width_at lowered at) (slot + width_at text slot)
   pub jumps : LeadAlike lowered origins (jump_from lowered at) (jump_from text slot)
+
+-- the comparison that holds just where another one doesn't, if there is one (RFC 9669, section 4.3)
+unfoldable pub negation : Comparison → Option Comparison
+negation Equal = Some NotEqual
+negation NotEqual = Some Equal
+negation Greater = Some LessOrEqual
+negation GreaterOrEqual = Some Less
+negation Less = Some GreaterOrEqual
+negation LessOrEqual = Some Greater
+negation AnyBit = None
+negation SignedGreater = Some SignedLessOrEqual
+negation SignedGreaterOrEqual = Some SignedLess
+negation SignedLess = Some SignedGreaterOrEqual
+negation SignedLessOrEqual = Some SignedGreater
+
+-- one conditional jump has the negation of another one's comparison
+pub record Negates (insn other : Insn) : Type 0 where
+  pub comparison : Comparison
+  pub negated : Comparison
+  pub width : Width
+  pub source : Source
+  pub is : operation_of insn.opcode ≡ Some (Branch comparison width source)
+  pub other_is : operation_of other.opcode ≡ Some (Branch negated width source)
+  pub negation : negation comparison ≡ Some negated
+
+-- what two conditional jumps have in common that compare the same numbers
+abbrev pub operands : Insn → Insn
+operands insn = record insn { opcode = 0; offset = pos 0 }
+
+-- The instruction of a lowered text is a negated copy of the original's at a slot: both are conditional jumps that
+-- compare the same numbers, each by the negation of the other's comparison. So the copy jumps where the original falls
+-- through, and falls through where the original jumps.
+pub record IsNegatedCopy (text lowered origins : List ℕ) (at slot : ℕ) : Type 0 where
+  pub instruction : IsInstruction text slot
+  pub negates : Negates (insn_at lowered at) (insn_at text slot)
+  pub same : operands (insn_at lowered at) ≡ operands (insn_at text slot)
+  pub falls : LeadAlike lowered origins (Some (at + width_at lowered at)) (jump_from text slot)
+  pub jumps : LeadAlike lowered origins (jump_from lowered at) (Some (slot + width_at text slot))
+
+-- a copy is an exact or a negated one
+unfoldable pub IsCopy : List ℕ → List ℕ → List ℕ → ℕ → ℕ → Type 0
+IsCopy text lowered origins at slot = IsExactCopy text lowered origins at slot ⊎ IsNegatedCopy text lowered origins at slot
 
 -- The instruction of a lowered text is a jump that is always taken and that was inserted: it stands for a slot
 -- and leads to a copy of the original's instruction there.
@@ -70,8 +116,9 @@ KeepsOriginAt whole lowered far near origins at =
     IsCopy lowered whole near at (slice_index near at) → slice_index origins (slice_index near at) ≡ slice_index far at
 
 -- A text was shortened: it is one that covers the original, without some of its jumps that are always taken. Put in
--- again they are inserted jumps, so the whole text covers the shortened one, too. `far` has the origins of the whole
--- text's slots in the original, `near` those in the shortened one, and `origins` those of the shortened one's slots.
+-- again they are inserted jumps, so the whole text covers the shortened one, too. A comparison whose jump passes over one
+-- that is left out stands negated there. `far` has the origins of the whole text's slots in the original, `near` those in
+-- the shortened one, and `origins` those of the shortened one's slots.
 pub record IsShortening (text whole lowered far near origins : List ℕ) : Type 0 where
   pub long : length origins ≡ slots_of lowered
   pub covers : IsCovering text whole far

@@ -4,9 +4,9 @@ ghost use Rattle.std.specs.Prelude.{◌≡◌, ◌↔◌, ◌<◌, ◌+◌, ℕ,
 ghost use Rattle.bpf_decode.specs.Opcodes.{operation_of};
 ghost use Rattle.bpf_decode.specs.Text.{slots_of, insn_at, width_at, is_instruction, IsInstruction};
 ghost use Rattle.loop_copies.specs.Slots.{falls_through};
-ghost use Rattle.lowering.specs.Covering.{undirected, LeadAlike, HasOrigin, IsCopy, IsInsertedJump, IsCoveredAt, IsCovering, KeepsOriginAt, IsShortening};
+ghost use Rattle.lowering.specs.Covering.{undirected, negation, Negates, operands, LeadAlike, HasOrigin, IsExactCopy, IsNegatedCopy, IsCopy, IsInsertedJump, IsCoveredAt, IsCovering, KeepsOriginAt, IsShortening};
 
-use bpf_decode::{Distance, Insn, Operation, Program};
+use bpf_decode::{Comparison, Distance, Insn, Operation, Program};
 use loop_copies::{begins, falls_through, jump_from, slot_after};
 
 /// Whether a lowered text covers the original: it begins with an instruction that stands for slot 0, and each of its
@@ -109,9 +109,19 @@ fn is_inserted_jump(text: &Program, lowered: &Program, origins: &[u16], at: u32,
 }
 
 /// Whether an instruction of the lowered text is a copy of the original's at a slot.
+#[tactic(auto, unfolding(crate::specs::Covering::IsCopy))]
 fn is_copy(text: &Program, lowered: &Program, origins: &[u16], at: u32, slot: u32) -> bool
     requires { IsInstruction lowered.now at }
     ensures { IsTrue result ↔ IsCopy text.now lowered.now origins.now at slot }
+{
+    is_exact_copy(text, lowered, origins, at, slot)
+        || is_negated_copy(text, lowered, origins, at, slot)
+}
+
+/// Whether an instruction of the lowered text is an exact copy of the original's at a slot.
+fn is_exact_copy(text: &Program, lowered: &Program, origins: &[u16], at: u32, slot: u32) -> bool
+    requires { IsInstruction lowered.now at }
+    ensures { IsTrue result ↔ IsExactCopy text.now lowered.now origins.now at slot }
 {
     begins(text, slot)
         && undirected(lowered.insn(at)) == undirected(text.insn(slot))
@@ -122,6 +132,88 @@ fn is_copy(text: &Program, lowered: &Program, origins: &[u16], at: u32, slot: u3
             jump_from(lowered, at),
             jump_from(text, slot),
         )
+}
+
+/// Whether an instruction of the lowered text is a negated copy of the original's at a slot: it jumps where that one falls
+/// through, and falls through where that one jumps.
+fn is_negated_copy(text: &Program, lowered: &Program, origins: &[u16], at: u32, slot: u32) -> bool
+    requires { IsInstruction lowered.now at }
+    ensures { IsTrue result ↔ IsNegatedCopy text.now lowered.now origins.now at slot }
+{
+    begins(text, slot)
+        && negates(&lowered.insn(at), &text.insn(slot))
+        && operands(lowered.insn(at)) == operands(text.insn(slot))
+        && leads_alike(
+            lowered,
+            origins,
+            Some(slot_after(lowered, at)),
+            jump_from(text, slot),
+        )
+        && leads_alike(
+            lowered,
+            origins,
+            jump_from(lowered, at),
+            Some(slot_after(text, slot)),
+        )
+}
+
+/// Whether two instructions are conditional jumps, of which one has the negation of the other's comparison.
+fn negates(insn: &Insn, other: &Insn) -> bool
+    ensures { IsTrue result ↔ Negates insn.now other.now }
+{
+    let Some(
+        Operation::Branch {
+            comparison,
+            width,
+            source,
+        },
+    ) = Operation::of(insn.opcode)
+    else {
+        return false;
+    };
+    let Some(
+        Operation::Branch {
+            comparison: negated,
+            width: other_width,
+            source: other_source,
+        },
+    ) = Operation::of(other.opcode)
+    else {
+        return false;
+    };
+    negation(comparison) == Some(negated) && width == other_width && source == other_source
+}
+
+/// The comparison that holds just where another one doesn't, if there is one.
+#[tactic(auto, unfolding(crate::specs::Covering::negation))]
+fn negation(comparison: Comparison) -> Option<Comparison>
+    ensures { result ≡ negation comparison }
+{
+    let negation = match comparison {
+        Comparison::Equal => Comparison::NotEqual,
+        Comparison::NotEqual => Comparison::Equal,
+        Comparison::Greater => Comparison::LessOrEqual,
+        Comparison::GreaterOrEqual => Comparison::Less,
+        Comparison::Less => Comparison::GreaterOrEqual,
+        Comparison::LessOrEqual => Comparison::Greater,
+        Comparison::AnyBit => return None,
+        Comparison::SignedGreater => Comparison::SignedLessOrEqual,
+        Comparison::SignedGreaterOrEqual => Comparison::SignedLess,
+        Comparison::SignedLess => Comparison::SignedGreaterOrEqual,
+        Comparison::SignedLessOrEqual => Comparison::SignedGreater,
+    };
+    Some(negation)
+}
+
+/// A conditional jump without its comparison and its distance.
+fn operands(insn: Insn) -> Insn
+    ensures { result ≡ operands insn }
+{
+    Insn {
+        opcode: 0,
+        offset: 0,
+        ..insn
+    }
 }
 
 /// Whether a copy goes on to an instruction that stands for the next one of the original, if that goes on there.
