@@ -5,8 +5,8 @@ use crate::slots::{begins, jump_from};
 use bpf_decode::{Operation, Program};
 use std::alloc::{AllocError, Global};
 
-/// A text without jumps of another one that are always taken: those that lead to the next slot, and those that only a comparison
-/// before them passes over, which is negated in their stead.
+/// A text without jumps of another one that are always taken and lead forward: those to what stands next without them, and those that
+/// only a comparison before them passes over, which is negated in their stead.
 #[derive(Drop)]
 pub struct Shorter {
     pub text: Vec<u8>,
@@ -19,13 +19,14 @@ pub struct Shorter {
 impl Shorter {
     /// Leaves out such jumps of a text that was written, a program.
     pub fn of(alloc: Global, emitted: &Emitted, program: &Program) -> Result<Shorter, AllocError> {
+        let staying = Staying::of(alloc, program)?;
         let mut shorter = Shorter {
             text: Vec::new(alloc),
             origins: Vec::new(alloc),
-            new_slots: new_slots(alloc, program)?,
+            new_slots: staying.new_slots(alloc)?,
         };
         for slot in 0..program.slots() {
-            if !is_left_out(program, slot) {
+            if staying.stays(slot) {
                 let origin = emitted.origins.get(slot as usize).copied();
                 let bytes = shorter.bytes(emitted.text.as_slice(), program, slot);
                 shorter.text.extend_from_slice(&bytes)?;
@@ -55,6 +56,73 @@ impl Shorter {
     }
 }
 
+/// Which slots of a program stay.
+#[derive(Drop)]
+struct Staying {
+    /// For each slot and the end of the text the slot itself, if it stays, or else the one to which its jump leads in the end.
+    ends: Vec<u16>,
+    /// For each of these the first slot that stays, from there on.
+    nexts: Vec<u16>,
+}
+
+impl Staying {
+    /// Those of a program, found from its end on, since jumps that are left out lead forward.
+    fn of(alloc: Global, program: &Program) -> Result<Staying, AllocError> {
+        let count = program.slots().wrapping_add(1);
+        let mut staying = Staying {
+            ends: vec![in alloc; 0; count as usize]?,
+            nexts: vec![in alloc; 0; count as usize]?,
+        };
+        for slot in (0..count).rev() {
+            staying.find(program, slot);
+        }
+        Ok(staying)
+    }
+
+    /// Finds out whether a slot stays, if that is known of those after it.
+    fn find(&mut self, program: &Program, slot: u32) {
+        let own = (slot & 0xffff) as u16;
+        let next = at(&self.nexts, slot.wrapping_add(1));
+        let (end, next) = match goto_ahead(program, slot) {
+            Some(to) if at(&self.ends, to) == next || is_passed_over(program, slot) => {
+                (at(&self.ends, to), next)
+            }
+            _ => (own, own),
+        };
+        set(&mut self.ends, slot, end);
+        set(&mut self.nexts, slot, next);
+    }
+
+    /// Whether a slot stays.
+    fn stays(&self, slot: u32) -> bool {
+        u32::from(at(&self.ends, slot)) == slot
+    }
+
+    /// Where each slot of the program goes.
+    fn new_slots(&self, alloc: Global) -> Result<Vec<u16>, AllocError> {
+        let before = self.before(alloc)?;
+        let mut slots = Vec::new(alloc);
+        for end in self.ends.iter() {
+            slots.push(at(&before, u32::from(*end)))?;
+        }
+        let _end = slots.pop();
+        Ok(slots)
+    }
+
+    /// How many slots before each slot stay.
+    fn before(&self, alloc: Global) -> Result<Vec<u16>, AllocError> {
+        let mut before = Vec::new(alloc);
+        let mut count: u16 = 0;
+        for (slot, end) in self.ends.iter().enumerate() {
+            before.push(count)?;
+            if usize::from(*end) == slot {
+                count = count.wrapping_add(1);
+            }
+        }
+        Ok(before)
+    }
+}
+
 /// The number of a slot in a list.
 fn at(slots: &[u16], slot: u32) -> u16 {
     match slots.get(slot as usize) {
@@ -63,69 +131,30 @@ fn at(slots: &[u16], slot: u32) -> u16 {
     }
 }
 
-/// Where each slot of a program goes.
-fn new_slots(alloc: Global, program: &Program) -> Result<Vec<u16>, AllocError> {
-    let mut slots = moved_up(alloc, program)?;
-    for slot in 0..program.slots() {
-        lead_past(&mut slots, program, slot);
-    }
-    Ok(slots)
-}
-
-/// How many slots before each slot of a program stay.
-fn moved_up(alloc: Global, program: &Program) -> Result<Vec<u16>, AllocError> {
-    let mut slots = Vec::new(alloc);
-    let mut new: u16 = 0;
-    for slot in 0..program.slots() {
-        slots.push(new)?;
-        if !is_left_out(program, slot) {
-            new = new.wrapping_add(1);
-        }
-    }
-    Ok(slots)
-}
-
-/// Has a jump that is passed over go where its target went.
-fn lead_past(slots: &mut [u16], program: &Program, slot: u32) {
-    if !is_passed_over(program, slot) {
-        return;
-    }
-    let to = match target(program, slot) {
-        Some(to) => at(slots, to),
-        None => 0,
-    };
-    if let Some(new) = slots.get_mut(slot as usize) {
-        *new = to;
+/// Sets the number of a slot in a list.
+fn set(slots: &mut [u16], slot: u32, number: u16) {
+    if let Some(place) = slots.get_mut(slot as usize) {
+        *place = number;
     }
 }
 
-/// Whether a slot is left out. Of several jumps to the next slot in a row that is the last one: the others then lead to one that stays.
-fn is_left_out(program: &Program, slot: u32) -> bool {
-    leads_on(program, slot) && !leads_on(program, slot.wrapping_add(1))
-        || is_passed_over(program, slot)
+/// The slot to which a jump at a slot leads that is always taken, if it leads forward.
+fn goto_ahead(program: &Program, slot: u32) -> Option<u32> {
+    if !is_goto(program, slot) {
+        return None;
+    }
+    match target(program, slot) {
+        Some(to) if to > slot && begins(program, to) => Some(to),
+        _ => None,
+    }
 }
 
-/// Whether a jump that is always taken stands at a slot, and leads to the next one.
-fn leads_on(program: &Program, slot: u32) -> bool {
-    is_goto(program, slot) && target(program, slot) == Some(slot.wrapping_add(1))
-}
-
-/// Whether a jump that is always taken stands at a slot and leads further, and a comparison before it passes over it that has a negation.
+/// Whether a jump that is always taken stands at a slot and leads forward, and a comparison before it passes over it that has a negation.
 fn is_passed_over(program: &Program, slot: u32) -> bool {
-    is_goto(program, slot)
-        && slot > 0
+    slot > 0
+        && goto_ahead(program, slot).is_some()
         && has_negation(program, slot.wrapping_sub(1))
         && target(program, slot.wrapping_sub(1)) == Some(slot.wrapping_add(1))
-        && leads_further(program, slot)
-}
-
-/// Whether the instruction at a slot jumps further than to the next slot, and to no jump that is always taken, since that one might be
-/// left out, too.
-fn leads_further(program: &Program, slot: u32) -> bool {
-    match target(program, slot) {
-        Some(to) => to > slot.wrapping_add(1) && begins(program, to) && !is_goto(program, to),
-        None => false,
-    }
 }
 
 /// Whether a jump that is always taken stands at a slot.

@@ -45,14 +45,16 @@ pub fn is_in_loop(text: &[u8], slot: u32) -> bool {
 }
 
 impl Copies<'_> {
-    /// The slot for which an instruction of the lowered text stands; none for a jump that was inserted.
+    /// The slot for which an instruction of the lowered text stands; none for a jump that was inserted. A copy has the same opcode, or
+    /// that of the negated comparison.
     pub fn origin(&self, at: usize) -> Option<u32> {
         let origin = *self.lowered.origins.get(at)?;
+        let own = opcode_at(self.lowered.text.as_slice(), at)?;
         let copied = opcode_at(self.text, usize::from(origin))?;
-        if opcode_at(self.lowered.text.as_slice(), at) == Some(copied) {
-            Some(u32::from(origin))
-        } else {
+        if own == GOTO && copied != GOTO {
             None
+        } else {
+            Some(u32::from(origin))
         }
     }
 
@@ -67,6 +69,9 @@ impl Copies<'_> {
         copies
     }
 }
+
+/// The opcode of jumps that are inserted: JA (RFC 9669, section 4.3).
+const GOTO: u8 = 0x05;
 
 /// The opcode of a slot.
 fn opcode_at(text: &[u8], slot: usize) -> Option<u8> {

@@ -1,6 +1,6 @@
 -- Runs of a text that covers another, step by step.
-use Rattle.std.specs.Prelude.{◌≡◌, ℕ, zero, suc, ◌+◌, ◌⊎◌, ℤ, pos, negsuc, ◌+ℤ◌, Bool, true, false, if◌then◌else◌, List, slice_index, Option, Some, None, option_map}
-use Rattle.std.proofs.Common.{refl, sym, ap, subst, ◌∙◌, inl, inr}
+use Rattle.std.specs.Prelude.{◌≡◌, ◌≤◌, ℕ, zero, suc, ◌+◌, ◌⊎◌, ℤ, pos, negsuc, ◌+ℤ◌, Bool, true, false, if◌then◌else◌, List, slice_index, Option, Some, None, option_map}
+use Rattle.std.proofs.Common.{refl, sym, ap, subst, ◌∙◌, inl, inr, arith}
 use Rattle.host_types.specs.Memory.{FlatMaps, ◌>>=◌}
 use Rattle.bpf_decode.specs.declared.operation.Source.{Source}
 use Rattle.bpf_decode.specs.declared.operation.Width.{Width}
@@ -8,7 +8,7 @@ use Rattle.bpf_decode.specs.declared.operation.Comparison.{Comparison}
 use Rattle.bpf_decode.specs.declared.operation.Operation.{Operation}
 use Rattle.bpf_decode.specs.declared.operation.Operation.TheVariants.{Alu, Load, Store, LoadImmediate, Jump, Branch, Call, Exit}
 use Rattle.bpf_decode.specs.Opcodes.{operation_of, distance_of}
-use Rattle.bpf_decode.specs.Text.{insn_at, width_at, IsInstruction}
+use Rattle.bpf_decode.specs.Text.{insn_at, slots_of, width_at, IsInstruction}
 use Rattle.insn_alu.specs.Comparisons.{holds}
 use Rattle.interp.specs.Machine.{MachineState, Outcome, Next, Exits, start_state, register, operand, fallen, at_slot, jumped, step_alu, step_load, step_store, step_load_immediate, step_call, step_branch, step_exit, step_by, step}
 use Rattle.interp.specs.Runs.{Runs}
@@ -189,21 +189,31 @@ pub record HasCopy (text lowered origins context : List ℕ) (maps : FlatMaps) (
   pub copy : IsCopy text lowered origins at.slot (slice_index origins at.slot)
   pub same : at_origin origins at ≡ s
 
--- from any instruction a copy is reached
-to_copy : (text lowered origins context : List ℕ) (maps : FlatMaps) (s t : MachineState) → IsCovering text lowered origins → ComesTo lowered context maps t → IsInstruction lowered t.slot → at_origin origins t ≡ s
-    → HasCopy text lowered origins context maps s
-to_copy text lowered origins context maps s t covering run here same =
+-- from any instruction a copy is reached: jumps that were inserted lead to one, or forward, of which there are no more than slots
+copy_within : (n : ℕ) (text lowered origins context : List ℕ) (maps : FlatMaps) (s t : MachineState) → slots_of lowered ≤ t.slot + n → IsCovering text lowered origins → ComesTo lowered context maps t
+    → IsInstruction lowered t.slot → at_origin origins t ≡ s → HasCopy text lowered origins context maps s
+copy_within zero text lowered origins context maps s t few covering run here same = let within = here.within in absurd (omega (arith, few, within))
+copy_within (suc n) text lowered origins context maps s t few covering run here same =
     elim (covering.covered t.slot here) [
       | inl copy ↦ record { at = t; run = run; here = here; copy = copy; same = same }
       | inr jump ↦
-          record {
-            at = moved jump.to t;
-            run = (suc run.0, (t, run.1, jump_steps text lowered origins t (slice_index origins t.slot) here jump));
-            here = jump.origin.instruction;
-            copy = subst (IsCopy text lowered origins jump.to) (sym jump.origin.origin) jump.copy;
-            same = ap (λ (slot : ℕ). moved slot t) jump.origin.origin ∙ same;
-          }
+          let next : ComesTo lowered context maps (moved jump.to t) = (suc run.0, (t, run.1, jump_steps text lowered origins t (slice_index origins t.slot) here jump)) in
+          let kept : at_origin origins (moved jump.to t) ≡ s = ap (λ (slot : ℕ). moved slot t) jump.origin.origin ∙ same in
+          elim jump.onward [
+            | inl further ↦ copy_within n text lowered origins context maps s (moved jump.to t) (omega (arith, few, further)) covering next jump.origin.instruction kept
+            | inr copy ↦ record {
+              at = moved jump.to t;
+              run = next;
+              here = jump.origin.instruction;
+              copy = subst (IsCopy text lowered origins jump.to) (sym jump.origin.origin) copy;
+              same = kept;
+            }
+          ]
     ]
+
+to_copy : (text lowered origins context : List ℕ) (maps : FlatMaps) (s t : MachineState) → IsCovering text lowered origins → ComesTo lowered context maps t → IsInstruction lowered t.slot → at_origin origins t ≡ s
+    → HasCopy text lowered origins context maps s
+to_copy text lowered origins context maps s t = copy_within (slots_of lowered) text lowered origins context maps s t (omega arith)
 
 -- an outcome at an origin that is a state came of a state
 came_of : (origins : List ℕ) (o : Option Outcome) (s : MachineState) → option_map (outcome_at origins) o ≡ Some (Next s) → (t : MachineState) × (o ≡ Some (Next t)) × (at_origin origins t ≡ s)

@@ -1,5 +1,5 @@
 -- Lowered texts: each instruction is a copy of one of an original text, or a jump that was inserted.
-use Rattle.std.specs.Prelude.{◌≡◌, ℕ, ◌+◌, pos, true, ◌⊎◌, List, length, slice_index, Option, Some, None}
+use Rattle.std.specs.Prelude.{◌≡◌, ◌<◌, ℕ, ◌+◌, pos, true, ◌⊎◌, List, length, slice_index, Option, Some, None}
 use Rattle.bpf_decode.specs.declared.insn.Insn.{Insn}
 use Rattle.bpf_decode.specs.declared.operation.Comparison.{Comparison}
 use Rattle.bpf_decode.specs.declared.operation.Comparison.TheVariants.{Equal, NotEqual, Greater, GreaterOrEqual, Less, LessOrEqual, AnyBit, SignedGreater, SignedGreaterOrEqual, SignedLess, SignedLessOrEqual}
@@ -88,14 +88,14 @@ unfoldable pub IsCopy : List ℕ → List ℕ → List ℕ → ℕ → ℕ → T
 IsCopy text lowered origins at slot = IsExactCopy text lowered origins at slot ⊎ IsNegatedCopy text lowered origins at slot
 
 -- The instruction of a lowered text is a jump that is always taken and that was inserted: it stands for a slot
--- and leads to a copy of the original's instruction there.
+-- and leads to a copy of the original's instruction there, or forward to another instruction that stands for it.
 pub record IsInsertedJump (text lowered origins : List ℕ) (at slot : ℕ) : Type 0 where
   pub distance : Distance
   pub jump : operation_of (insn_at lowered at).opcode ≡ Some (Jump distance)
   pub to : ℕ
   pub leads : jump_from lowered at ≡ Some to
   pub origin : HasOrigin lowered origins to slot
-  pub copy : IsCopy text lowered origins to slot
+  pub onward : (at < to) ⊎ IsCopy text lowered origins to slot
 
 -- an instruction of a lowered text is a copy, or a jump that was inserted
 abbrev pub IsCoveredAt : List ℕ → List ℕ → List ℕ → ℕ → Type 0

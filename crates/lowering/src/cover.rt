@@ -10,7 +10,7 @@ use bpf_decode::{Comparison, Distance, Insn, Operation, Program};
 use loop_copies::{begins, falls_through, jump_from, slot_after};
 
 /// Whether a lowered text covers the original: it begins with an instruction that stands for slot 0, and each of its
-/// instructions is a copy of the original's at its origin, or an inserted jump to such a copy. `origins` has for each
+/// instructions is a copy of the original's at its origin, or an inserted jump that leads to one. `origins` has for each
 /// slot of the lowered text the slot of the original for which it stands.
 pub fn covers(text: &Program, lowered: &Program, origins: &[u16]) -> bool
     ensures { IsTrue result ↔ IsCovering text.now lowered.now origins.now }
@@ -94,7 +94,8 @@ fn is_covered(text: &Program, lowered: &Program, origins: &[u16], at: u32) -> bo
     is_copy(text, lowered, origins, at, slot) || is_inserted_jump(text, lowered, origins, at, slot)
 }
 
-/// Whether an instruction of the lowered text is an inserted jump to a copy of the original's at a slot.
+/// Whether an instruction of the lowered text is an inserted jump that leads to a copy of the original's at a slot, or forward to
+/// another instruction that stands for that slot.
 fn is_inserted_jump(text: &Program, lowered: &Program, origins: &[u16], at: u32, slot: u32) -> bool
     requires { IsInstruction lowered.now at }
     ensures { IsTrue result ↔ IsInsertedJump text.now lowered.now origins.now at slot }
@@ -105,7 +106,7 @@ fn is_inserted_jump(text: &Program, lowered: &Program, origins: &[u16], at: u32,
     let Some(to) = jump_from(lowered, at) else {
         return false;
     };
-    has_origin(lowered, origins, to, slot) && is_copy(text, lowered, origins, to, slot)
+    has_origin(lowered, origins, to, slot) && (at < to || is_copy(text, lowered, origins, to, slot))
 }
 
 /// Whether an instruction of the lowered text is a copy of the original's at a slot.
